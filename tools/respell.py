@@ -5,7 +5,8 @@ Run once, at the top, after /opt/rattle/port/port.py: python3 tools/respell.py
 A name that is declared in specs/ or in a file of lemmas and has a capital behind a small letter, or a dash,
 gets plain underscores (`withBurned-zero` becomes `with_burned_zero`), as port.py did where the library had
 the same name. Types, modules, functions of src/, labels of goals and strings keep their names. A few names
-have a row of their own in OWN. Names that would fall together are listed, and nothing is written then.
+have a row of their own in OWN. Names that would fall together are listed, and nothing is written then. The choice
+of definitions, once `if_then_else_`, is `when◌then◌else◌`: the library has an operator of that form.
 """
 import pathlib
 import re
@@ -26,6 +27,25 @@ def snake(name):
 
 def is_answers(path):
     return path.name in ("Proof.antt", "Answers.antt", "Invariants.antt")
+
+
+WORD = re.compile(r"(?<![\w.'◌-])if(?![\w'◌-])")
+
+
+def chosen(text, path):
+    """The choice under its own name: in definitions and proofs, and in the clauses of the files that import it."""
+    if "if◌then◌else◌" not in text and (path.suffix == ".rt" or not re.search(r"\bif\b", text)):
+        return text
+    out = []
+    for line in text.split("\n"):
+        line = line.replace("if◌then◌else◌", "when◌then◌else◌")
+        if path.suffix == ".rt":
+            out.append(WORD.sub("when", line) if re.match(r"\s*(ensures|requires)\b", line) else line)
+            continue
+        at = 0 if line.lstrip().startswith("--") else line.find(" -- ")
+        code, comment = (line, "") if at < 0 else (line[:at], line[at:])
+        out.append(WORD.sub("when", code) + comment)
+    return "\n".join(out)
 
 
 def main():
@@ -92,7 +112,7 @@ def main():
         return 1
     for p in antt + sorted(top.glob("crates/*/src/**/*.rt")):
         text = p.read_text()
-        then = turned(text, p)
+        then = chosen(turned(text, p), p)
         if then != text:
             p.write_text(then)
     if "--map" in sys.argv:

@@ -8,7 +8,7 @@ use Prim.Native.Nat.{ℕ, zero, suc, ◌+◌, ◌-◌, ◌≤◌, ◌<◌}
 use native.Mathlib.Omega.{arith}
 use lib.Dec.{leb, eqb}
 use lib.ListN.{get_or}
-use Rattle.lighting_levels.specs.Paper.Choice.{if◌then◌else◌, ◌also◌}
+use Rattle.lighting_levels.specs.Paper.Choice.{when◌then◌else◌, ◌also◌}
 use Rattle.lighting_frames.specs.Paper.Kinds.{longest_frame, unknown_row, plain_rows, command_rows, kind_row, kind_length}
 use Rattle.lighting_frames.specs.declared.Action.{Action}
 use Rattle.lighting_frames.specs.declared.Action.TheVariants.{WritesLevel, EmptiesSlot, WritesProperty, ReadsProperty, Stops, FadesTo, FadesToOver, RampsTo, RampsToAtRate, StepsUp, StepsDown, StepsUpBy, StepsDownBy, GoesTo, Relinquishes, CommandsTagged}
@@ -31,7 +31,7 @@ row_at f k n (suc i) (row ∷ rows) e u h = row_at f k (suc n) i rows (omega ari
 
 pub each_row : (f : ℕ → KindRow → Bool) → ((k : ℕ) → f k unknown_row ≡ true) → rows_from f 0 plain_rows ≡ true → rows_from f 0x10 command_rows ≡ true
     → (k : ℕ) → f k (kind_row k) ≡ true
-unfolding kind_row if◌then◌else◌
+unfolding kind_row when◌then◌else◌
 each_row f u a b k =
     by_le
     0x10
@@ -41,7 +41,7 @@ each_row f u a b k =
 
 -- no kind is longer than the longest frame
 pub length_most : (k : ℕ) → kind_length k ≤ longest_frame
-unfolding kind_length rows_from if◌then◌else◌
+unfolding kind_length rows_from when◌then◌else◌
 length_most k = le_of (each_row (λ (n : ℕ) (row : KindRow). leb row.length longest_frame) (λ n. refl) refl refl k)
 
 -- THE KIND BYTE of what a frame is
@@ -70,7 +70,7 @@ is_byte k (CallKind action) = eqb k (action_byte action)
 
 -- so the kind byte is that of what the table says it is, and asks
 row_byte : (k : ℕ) → is_byte k (kind_row k).kind ≡ true
-unfolding is_byte rows_from if◌then◌else◌
+unfolding is_byte rows_from when◌then◌else◌
 row_byte k = each_row (λ (n : ℕ) (row : KindRow). is_byte n row.kind) (λ n. refl) refl refl k
 
 pub clock_byte : (k : ℕ) → (kind_row k).kind ≡ ClockKind → k ≡ 0x01

@@ -5,7 +5,7 @@ use Prim.Native.Nat.{ℕ, ◌-◌, ◌≤◌}
 use native.Mathlib.Omega.{arith}
 use lib.Dec.{ltb, eqb}
 use lib.ListN.{length}
-use Rattle.lighting_levels.specs.Paper.Choice.{if◌then◌else◌}
+use Rattle.lighting_levels.specs.Paper.Choice.{when◌then◌else◌}
 use Rattle.lighting_outputs.specs.declared.Parameters.{Parameters}
 use Rattle.lighting_levels.specs.Paper.Field.{byte_at}
 use Rattle.lighting_outputs.specs.Paper.Operations.{operation_number}
@@ -61,7 +61,7 @@ request_number p CommandsTagged b command k m h = absurd (omega arith)
 
 -- a frame that was read as a call asks what the table has for its kind
 called_request : (p : Parameters) (c : ℕ) (call call' : Call) → called p c call ≡ Calls call' → call' ≡ call
-unfolding called if◌then◌else◌
+unfolding called when◌then◌else◌
 called_request p c call call' =
     by_bool (ltb call.station p.stations) (λ e. rw e
     (by_bool (eqb call.number 0) (λ e. rw e (λ h. cc)) (λ e. rw e
@@ -74,7 +74,7 @@ call_asks p action b call e = rw e
 number_by : (p : Parameters) (c l : ℕ) (k : Kind) (b : Bytes) (call : Call) (command : Command)
     → (kind_row (byte_at b 0)).kind ≡ k → parse_by p c l k b ≡ Calls call → call.request ≡ ToOutput (Commands command) → 0x10 ≤ byte_at b 0 → byte_at b 0 ≤ 0x1a
     → operation_number command.operation ≡ byte_at b 0 - 0x10
-unfolding parse_by if◌then◌else◌
+unfolding parse_by when◌then◌else◌
 number_by p c l NoKind b call command e h r n m = cc
 number_by p c l ClockKind b call command e h r n m = by_bool (eqb (length b) l) (λ q. clock (rw q at h)) (λ q. bad (rw q at h))
   where

@@ -5,7 +5,7 @@ use Prim.Native.Nat.{ℕ, ◌+◌, ◌-◌, ◌*◌, ◌^◌, ◌≤◌, ◌<◌
 use native.Mathlib.Omega.{arith}
 use lib.Dec.{eqb}
 use lib.ListN.{length, drop}
-use Rattle.lighting_levels.specs.Paper.Choice.{if◌then◌else◌}
+use Rattle.lighting_levels.specs.Paper.Choice.{when◌then◌else◌}
 use Rattle.lighting_outputs.specs.declared.Parameters.{Parameters}
 use Rattle.lighting_levels.specs.Paper.Level.{least_level, greatest_level, real, level_of}
 use Rattle.lighting_levels.specs.Paper.Field.{byte_at, big_endian}
@@ -39,7 +39,7 @@ level_good p i (Units v) g f = let r = f v refl in (g, record { least = r.0; mos
 level_good p i OutOfRange g f = omega arith
 
 request_good : (p : Parameters) (action : Action) (b : Bytes) → RequestInRange p (request_of p action b)
-unfolding request_of write_of empty_of if◌then◌else◌
+unfolding request_of write_of empty_of when◌then◌else◌
 request_good p WritesLevel b =
     let n = byte_at b 13 in
     let x = real (big_endian 4 b 14) in
@@ -93,7 +93,7 @@ FrameInRange p c b (Calls call) = Called p c b call
 
 called_in_range : (p : Parameters) (c : ℕ) (b : Bytes) (action : Action) → Octets b → length b ≡ kind_length (byte_at b 0) → is_call (byte_at b 0) ≡ true
     → FrameInRange p c b (called p c (call_of p action b))
-unfolding called call_of if◌then◌else◌
+unfolding called call_of when◌then◌else◌
 called_in_range p c b action h z y =
     by_lt
     (byte_at b 1)
@@ -120,7 +120,7 @@ called_in_range p c b action h z y =
     (λ l e. rw e (omega arith))
 
 kind_in_range : (p : Parameters) (c : ℕ) (b : Bytes) (k : Kind) → Octets b → (kind_row (byte_at b 0)).kind ≡ k → FrameInRange p c b (parse_by p c (kind_length (byte_at b 0)) k b)
-unfolding parse_by clock_of if◌then◌else◌
+unfolding parse_by clock_of when◌then◌else◌
 kind_in_range p c b NoKind h e = omega arith
 kind_in_range p c b ClockKind h e =
     by_bool (eqb (length b) (kind_length (byte_at b 0))) (λ q. rw q (six_bytes b 1 h)) (λ q. rw q (omega arith))

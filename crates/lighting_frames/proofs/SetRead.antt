@@ -7,7 +7,7 @@ use mathlib.Core.Bool.{true}
 use Prim.Native.Nat.{ℕ}
 use native.Mathlib.Omega.{arith}
 use lib.ListN.{drop}
-use Rattle.lighting_levels.specs.Paper.Choice.{if◌then◌else◌}
+use Rattle.lighting_levels.specs.Paper.Choice.{when◌then◌else◌}
 use Rattle.lighting_levels.specs.Paper.Field.{byte_at}
 use Rattle.lighting_outputs.specs.declared.Parameters.{Parameters}
 use Rattle.lighting_outputs.specs.Paper.Properties.{same, change_of}
@@ -38,7 +38,7 @@ pub data SetRead (action : Action) (b : Bytes) : Type 0 where
       → fade_time_in b ≡ NoTime → SetRead action b
   refuses : {refusal : ℕ} → ((p : Parameters) → request_of p action b ≡ Refuse refusal) → SetRead action b
   writes : (property : Property) (x : ℕ) → ((p : Parameters) → request_of p action b ≡ change_of p property x)
-      → fade_time_in b ≡ (if same FadeTime property then Time x else NoTime) → SetRead action b
+      → fade_time_in b ≡ (when same FadeTime property then Time x else NoTime) → SetRead action b
   commands : (operation : Operation) (duration : TimeField)
       → ((p : Parameters) → request_of p action b ≡ command_of p operation duration)
       → fade_time_in b ≡ (fields_of operation).fade → SetRead action b
@@ -57,7 +57,7 @@ own_fade f known own =
 
 -- EVERY KIND, by its byte
 pub set_read : (action : Action) (b : Bytes) → byte_at b 0 ≡ action_byte action → SetRead action b
-unfolding fade_time_in fields_of request_of command_request read_body read_fields tagged_request if◌then◌else◌
+unfolding fade_time_in fields_of request_of command_request read_body read_fields tagged_request when◌then◌else◌
 set_read WritesLevel b byte = none (λ p. refl) (rw byte)
 set_read EmptiesSlot b byte = none (λ p. refl) (rw byte)
 set_read WritesProperty b byte =

@@ -6,7 +6,7 @@ use mathlib.Core.Bool.{Bool, false}
 use Prim.Native.Nat.{ℕ, suc, ◌≤◌}
 use lib.Dec.{eqb, ltb}
 use lib.ListN.{length}
-use Rattle.lighting_levels.specs.Paper.Choice.{if◌then◌else◌}
+use Rattle.lighting_levels.specs.Paper.Choice.{when◌then◌else◌}
 use Rattle.lighting_levels.specs.Paper.Field.{byte_at, big_endian}
 use Rattle.lighting_outputs.specs.declared.Parameters.{Parameters}
 use Rattle.lighting_outputs.specs.Paper.Properties.{same}
@@ -29,7 +29,7 @@ use Rattle.lighting_frames.proofs.SetRead.{SetRead, none, refuses, writes, comma
 
 -- a clock carries none
 clock_carries : (least most : ℕ) (b : Bytes) → (kind_row (byte_at b 0)).kind ≡ ClockKind → carries least most b ≡ false
-unfolding carries fade_time_in time_within if◌then◌else◌
+unfolding carries fade_time_in time_within when◌then◌else◌
 clock_carries least most b kind = rw (clock_byte (byte_at b 0) kind)
 
 -- A FRAME by the longer set, and by the shorter one: at most what is asked differs
@@ -50,7 +50,7 @@ module _ (p : Parameters) (fade : ℕ) (less : fade ≤ p.fade) where
   -- A REQUEST
   request : (action : Action) (b : Bytes) → SetRead action b
       → Shortened (carries (suc fade) p.fade b) (request_of p action b) (request_of shorter action b)
-  unfolding carries time_within if◌then◌else◌
+  unfolding carries time_within when◌then◌else◌
   request action b (none reads carried) = rw (carried, reads p, reads shorter) (alike refl)
   request action b (refuses reads) = rw (reads p, reads shorter) refused
   request action b (writes property x reads carried) =
@@ -63,7 +63,7 @@ module _ (p : Parameters) (fade : ℕ) (less : fade ≤ p.fade) where
   -- EVERY STRING OF BYTES
   by_kind : (c size : ℕ) (kind : Kind) (b : Bytes) → (kind_row (byte_at b 0)).kind ≡ kind
       → ShortenedFrame (carries (suc fade) p.fade b) (parse_by p c size kind b) (parse_by shorter c size kind b)
-  unfolding parse_by called call_of clock_of if◌then◌else◌
+  unfolding parse_by called call_of clock_of when◌then◌else◌
   by_kind c size NoKind b is = bad
   by_kind c size ClockKind b is =
       by_bool (eqb (length b) size)

@@ -6,7 +6,7 @@ use native.Mathlib.Omega.{arith}
 use lib.Dec.{leb, ltb, eqb, lit<}
 use lib.Ieee.{Float, nan, inf, fin, up, down}
 use lib.Ieee.Fits.{down_pos}
-use Rattle.lighting_levels.specs.Paper.Choice.{if◌then◌else◌, ◌also◌}
+use Rattle.lighting_levels.specs.Paper.Choice.{when◌then◌else◌, ◌also◌}
 use Rattle.lighting_levels.specs.declared.Level.{Level}
 use Rattle.lighting_levels.specs.declared.Level.TheVariants.{Units, OutOfRange}
 use Rattle.lighting_levels.specs.Paper.Level.{one_percent, least_level, greatest_level, least_amount, units_in, from_to, real_from_to, level_of, amount_of, limit_of, units_or, amount_units, level_units}
@@ -18,7 +18,7 @@ pub refused : {A : Type 0} {v : ℕ} → ◌≡◌ {A = Level} OutOfRange (Units
 refused h = let z : ◌≡◌ {A = ℕ} 0 1 = cc in absurd (omega arith)
 
 -- units that a test let through
-taken : (t : Bool) (u v : ℕ) → (if t then Units u else OutOfRange) ≡ Units v → (t ≡ true) × (u ≡ v)
+taken : (t : Bool) (u v : ℕ) → (when t then Units u else OutOfRange) ≡ Units v → (t ≡ true) × (u ≡ v)
 taken t u v h =
     let p = passed t (Units u) OutOfRange (Units v) refused h in
     let e : Units u ≡ Units v = p.1 in
@@ -61,11 +61,11 @@ module _ (v : ℕ) where
   one_of : {u : ℕ} → ◌≡◌ {A = Level} (Units u) (Units v) → (least_level * min 1 u ≤ u) × (u ≤ greatest_level) → Range
   one_of {u} h r = let e : u ≡ v = cc in rw (← e) r
 
-  zero_in : (t : Bool) → (if t then Units 0 else OutOfRange) ≡ Units v → Range
+  zero_in : (t : Bool) → (when t then Units 0 else OutOfRange) ≡ Units v → Range
   zero_in t h = let z = (taken t 0 v h).1 in omega arith
 
-  level_in_lem : (a c : ℕ) (z l : Bool) → 0 < c → (if z then Units 0 else if l then Units least_level else from_to 8 a c) ≡ Units v → Range
-  unfolding if◌then◌else◌
+  level_in_lem : (a c : ℕ) (z l : Bool) → 0 < c → (when z then Units 0 else when l then Units least_level else from_to 8 a c) ≡ Units v → Range
+  unfolding when◌then◌else◌
   level_in_lem a c true l C h = one_of h (omega arith)
   level_in_lem a c false true C h = one_of h (omega arith)
   level_in_lem a c false false C h = omega (arith, from_to_lem 8 a c v C h)

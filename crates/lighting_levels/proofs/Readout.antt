@@ -11,7 +11,7 @@ use lib.Ieee.Exact.{HasValue, round_exact}
 use lib.Ieee.Fits.{down_pos, round-fits}
 use lib.Ieee.Bits.{of_bits-to_bits}
 use borrow.Author.Tests.{lt-ltb, le-ltb, le-leb, eq-eqb, ne_eqb}
-use Rattle.lighting_levels.specs.Paper.Choice.{if◌then◌else◌}
+use Rattle.lighting_levels.specs.Paper.Choice.{when◌then◌else◌}
 use Rattle.lighting_levels.specs.declared.Level.TheVariants.{Units}
 use Rattle.lighting_levels.specs.Paper.Level.{one_percent, least_level, greatest_level, real, bits, level_in, level_of, real_of, read_out}
 use Rattle.lighting_levels.proofs.Split.{by_eq, by_lt}
@@ -24,18 +24,18 @@ exact n h = round_exact binary32 false n one_percent n 133 (lit< tt) (omega arit
 
 -- what a level becomes that was read out and is written again
 abbrev pub returned : ℕ → ℕ
-returned n = if eqb n 0 then 0 else max n least_level
+returned n = when eqb n 0 then 0 else max n least_level
 
 -- ---- a / c is n / 65,536
 module _ (a c n : ℕ) (C : 0 < c) (h : n ≤ greatest_level) (e : a * one_percent ≡ n * c) where
   zero_back : n ≡ 0 → level_in a c ≡ Units (returned n)
-  unfolding if◌then◌else◌
+  unfolding when◌then◌else◌
   zero_back z =
       let k : n * c ≡ 0 = rw z (omega arith) in
       rw (eq-eqb a 0 (omega arith), z)
 
   low_back : 0 < n → n < least_level → level_in a c ≡ Units (returned n)
-  unfolding if◌then◌else◌
+  unfolding when◌then◌else◌
   low_back p l =
       let k : suc n * c ≤ least_level * c = mul-le-mul_right c l in
       let j : 1 * c ≤ n * c = mul-le-mul_right c p in
@@ -43,7 +43,7 @@ module _ (a c n : ℕ) (C : 0 < c) (h : n ≤ greatest_level) (e : a * one_perce
       rw (ne_eqb a 0 (λ z. omega arith), lt-ltb a c (omega arith), ne_eqb n 0 (λ z. omega arith), m)
 
   high_back : least_level ≤ n → level_in a c ≡ Units (returned n)
-  unfolding if◌then◌else◌
+  unfolding when◌then◌else◌
   high_back l =
       let k : least_level * c ≤ n * c = mul-le-mul_right c l in
       let j : n * c ≤ greatest_level * c = mul-le-mul_right c h in
@@ -70,13 +70,13 @@ round_trip n h = value_back (real_of n) n h (exact n h)
 
 -- "Only 1 to 65,535 .. do not return when written"
 pub comes_back : (n : ℕ) → n ≤ greatest_level → least_level * min 1 n ≤ n → level_of (real_of n) ≡ Units n
-unfolding if◌then◌else◌
+unfolding when◌then◌else◌
 comes_back n h l =
     round_trip n h
     ∙ ap Units (by_eq n 0 (λ z t. rw t (sym z)) (λ z t. rw t (omega arith)))
 
 pub is_raised : (n : ℕ) → 0 < n → n < least_level → level_of (real_of n) ≡ Units least_level
-unfolding if◌then◌else◌
+unfolding when◌then◌else◌
 is_raised n p l = round_trip n (omega arith) ∙ ap Units (rw (ne_eqb n 0 (λ z. omega arith)) (omega arith))
 
 -- ---- the same by way of the bits: what `read_out` gives at a level is the pattern of the REAL equal to it

@@ -6,7 +6,7 @@ use mathlib.Core.Bool.{Bool, true, false}
 use mathlib.Core.List.{List, [], ◌∷◌}
 use native.Mathlib.Omega.{arith}
 use lib.Dec.{eqb}
-use Rattle.lighting_levels.specs.Paper.Choice.{if◌then◌else◌, ◌also◌, all_from}
+use Rattle.lighting_levels.specs.Paper.Choice.{when◌then◌else◌, ◌also◌, all_from}
 use Rattle.lighting_levels.proofs.Split.{also_both, also_yes, by_eq, by_lt}
 
 module _ (t : ℕ → Bool) (e : ℕ) where
@@ -17,11 +17,11 @@ module _ (t : ℕ → Bool) (e : ℕ) where
       ap (λ (n : ℕ). all_from t n i) unchanged ∙ ap (λ (x : Bool). x also all_from t (e - (i + 1)) (i + 1)) q
 
   pub scan_on : (i : ℕ) → i < e → t i ≡ true → all_from t (e - i) i ≡ all_from t (e - (i + 1)) (i + 1)
-  unfolding if◌then◌else◌
+  unfolding when◌then◌else◌
   scan_on i h q = opened i true h q
 
   pub scan_off : (i : ℕ) → i < e → t i ≡ false → all_from t (e - i) i ≡ false
-  unfolding if◌then◌else◌
+  unfolding when◌then◌else◌
   scan_off i h q = opened i false h q
 
   pub scan_done : (i : ℕ) → e ≤ i → all_from t (e - i) i ≡ true
@@ -57,4 +57,4 @@ all_skip t e (suc w) f =
 -- A NUMBER OF A LIST, by the test
 abbrev pub is_in : ℕ → List ℕ → Bool
 is_in n [] = false
-is_in n (m ∷ l) = if eqb n m then true else is_in n l
+is_in n (m ∷ l) = when eqb n m then true else is_in n l

@@ -6,16 +6,16 @@ use mathlib.Core.Logic.{◌≢◌}
 use mathlib.Core.Bool.{Bool, true, false, false≢true}
 use Prim.Native.Nat.{ℕ, suc, ◌≤◌, ◌<◌}
 use native.Mathlib.Omega.{arith}
-use Rattle.lighting_levels.specs.Paper.Choice.{if◌then◌else◌, ◌also◌}
+use Rattle.lighting_levels.specs.Paper.Choice.{when◌then◌else◌, ◌also◌}
 use lib.Dec.{T, leb, ltb, eqb, leb→le, le→leb, eqb→eq, eqb_refl, nleb→lt}
 
 -- A CONJUNCTION, made and taken apart
 pub also_yes : {a b : Bool} → a ≡ true → b ≡ true → (a also b) ≡ true
-unfolding if◌then◌else◌
+unfolding when◌then◌else◌
 also_yes p q = rw p q
 
 pub also_both : {a b : Bool} → (a also b) ≡ true → (a ≡ true) × (b ≡ true)
-unfolding if◌then◌else◌
+unfolding when◌then◌else◌
 also_both {a = true} h = (refl, h)
 also_both {a = false} h = absurd (false≢true h)
 
@@ -25,14 +25,14 @@ also_left a b h = (also_both h).0
 pub also_right : (a b : Bool) → (a also b) ≡ true → b ≡ true
 also_right a b h = (also_both h).1
 
-pub unless : {a b : Bool} → (if a then false else b) ≡ true → (a ≡ false) × (b ≡ true)
-unfolding if◌then◌else◌
+pub unless : {a b : Bool} → (when a then false else b) ≡ true → (a ≡ false) × (b ≡ true)
+unfolding when◌then◌else◌
 unless {a = true} h = absurd (false≢true h)
 unless {a = false} h = (refl, h)
 
 -- a choice that did not come to its second value took the first
-pub passed : {A : Type 0} (t : Bool) (a b c : A) → (b ≡ c → ⊥) → (if t then a else b) ≡ c → (t ≡ true) × (a ≡ c)
-unfolding if◌then◌else◌
+pub passed : {A : Type 0} (t : Bool) (a b c : A) → (b ≡ c → ⊥) → (when t then a else b) ≡ c → (t ≡ true) × (a ≡ c)
+unfolding when◌then◌else◌
 passed true a b c n h = (refl, h)
 passed false a b c n h = absurd (n h)
 

@@ -6,7 +6,7 @@ use mathlib.Core.Bool.{Bool, true, false}
 use Prim.Native.Nat.{ℕ, suc, ◌≤◌}
 use native.Mathlib.Omega.{arith}
 use lib.Dec.{eqb}
-use Rattle.lighting_levels.specs.Paper.Choice.{if◌then◌else◌, ◌also◌}
+use Rattle.lighting_levels.specs.Paper.Choice.{when◌then◌else◌, ◌also◌}
 use Rattle.lighting_outputs.specs.Paper.Parameters.{Parameters, longest_movement}
 use Rattle.lighting_outputs.specs.Paper.Rows.{within, meets}
 use Rattle.lighting_outputs.specs.Paper.Properties.{same, change_by, change_of}
@@ -82,7 +82,7 @@ module _ (p : Parameters) (fade : ℕ) (less : fade ≤ p.fade) where
 
   activity : (t : ℕ) (l : Bool) (first high v : ℕ) (a : Activity) → activity_by shorter t l first high v a ≡ true
       → activity_by p t l first high v a ≡ true
-  unfolding activity_by if◌then◌else◌
+  unfolding activity_by when◌then◌else◌
   activity t l first high v Still h = h
   activity t true first high v (Moving m) h = h
   activity t false first high v (Moving m) h = movement t first high v m h
@@ -100,7 +100,7 @@ module _ (p : Parameters) (fade : ℕ) (less : fade ≤ p.fade) where
       → (within 100 fade x ≡ false → within 100 p.fade x ≡ false → P)
       → (within (suc fade) p.fade x ≡ true → within 100 fade x ≡ false → within 100 p.fade x ≡ true → P)
       → P
-  unfolding within if◌then◌else◌
+  unfolding within when◌then◌else◌
   by_time x outside neither between =
       by_le x fade
       (λ under taken. outside
@@ -114,7 +114,7 @@ module _ (p : Parameters) (fade : ℕ) (less : fade ≤ p.fade) where
 
   -- a write of a property
   fade_time : (x : ℕ) → Shortened (within (suc fade) p.fade x) (change_of p FadeTime x) (change_of shorter FadeTime x)
-  unfolding change_of change_by if◌then◌else◌
+  unfolding change_of change_by when◌then◌else◌
   fade_time x =
       by_time x
       (λ none same_test. rw same_test (alike none))
@@ -125,7 +125,7 @@ module _ (p : Parameters) (fade : ℕ) (less : fade ≤ p.fade) where
       → Shortened (same FadeTime property also within (suc fade) p.fade x)
       (change_of p property x)
       (change_of shorter property x)
-  unfolding change_of if◌then◌else◌
+  unfolding change_of when◌then◌else◌
   change property x =
       by_bool (same FadeTime property)
       (λ h. rw h (rw (same_is FadeTime property refl h) (fade_time x)))
@@ -139,7 +139,7 @@ module _ (p : Parameters) (fade : ℕ) (less : fade ≤ p.fade) where
 
   fields_then : (q : Parameters) (f : OperationFields)
       → fields_refusal q f ≡ first_refusal (fields f) (time_field_refusal q f.fade)
-  unfolding fields fields_refusal first_refusal if◌then◌else◌
+  unfolding fields fields_refusal first_refusal when◌then◌else◌
   fields_then q f =
       by_bool (eqb (level_field_refusal f.level) 0)
       (λ e. rw e (by_bool (eqb (amount_field_refusal f.rate) 0) (λ e'. rw e') (λ e'. rw (e', e'))))
@@ -154,7 +154,7 @@ module _ (p : Parameters) (fade : ℕ) (less : fade ≤ p.fade) where
 
   taken : (between : Bool) → between ≡ true → (operation : Operation) (field : TimeField)
       → Shortened between (command_with_duration p operation field) (Refuse 12)
-  unfolding command_with_duration command_lasting if◌then◌else◌
+  unfolding command_with_duration command_lasting when◌then◌else◌
   taken between h operation (Time d) =
       by_bool (eqb d 0)
       (λ e. rw e (cut h commanded))
@@ -165,7 +165,7 @@ module _ (p : Parameters) (fade : ℕ) (less : fade ≤ p.fade) where
       → Shortened (time_within (suc fade) p.fade field)
       (command_request_by p (first_refusal reals (time_field_refusal p field)) operation duration)
       (command_request_by shorter (first_refusal reals (time_field_refusal shorter field)) operation duration)
-  unfolding time_within command_request_by first_refusal time_field_refusal meets if◌then◌else◌
+  unfolding time_within command_request_by first_refusal time_field_refusal meets when◌then◌else◌
   by_fade operation duration NoTime reals = rw (lasting operation duration) (alike refl)
   by_fade operation duration (Time x) reals =
       by_time x

@@ -8,7 +8,7 @@ use Prim.Native.Nat.{ℕ, suc, ◌≤◌, ◌<◌}
 use native.Mathlib.Omega.{arith}
 use lib.Dec.{ltb, eqb}
 use lib.ListN.{length, get_or, replicate}
-use Rattle.lighting_levels.specs.Paper.Choice.{if◌then◌else◌, every}
+use Rattle.lighting_levels.specs.Paper.Choice.{when◌then◌else◌, every}
 use Rattle.lighting_outputs.specs.declared.Parameters.{Parameters}
 use Rattle.lighting_levels.specs.Paper.Field.{byte_at}
 use Rattle.lighting_frames.specs.Paper.Frames.{Bytes, Octets, parse}
@@ -36,12 +36,12 @@ use Rattle.lighting_outputs.proofs.Rules.Tied.{tested_stays}
 -- THE START
 module _ (p : Parameters) (marks : ℕ) (e : Panel) where
   pub start_step_outside : startable p ≡ false → start_step p marks e ≡ panel_result e (Refused 17)
-  unfolding start_step if◌then◌else◌
+  unfolding start_step when◌then◌else◌
   start_step_outside h = rw h
 
   pub start_step_refused : startable p ≡ true → counts_sound p (length e.outputs) (length e.stations) ≡ false
       → start_step p marks e ≡ panel_result e (Refused 1)
-  unfolding start_step if◌then◌else◌
+  unfolding start_step when◌then◌else◌
   start_step_refused h g = rw (h, g)
 
   -- the fresh records are as many as are lent
@@ -53,17 +53,17 @@ module _ (p : Parameters) (marks : ℕ) (e : Panel) where
       (replicate (length e.stations) fresh_station)
       (fresh_record p marks))
       Done
-  unfolding start_step fresh_panel counts_sound if◌then◌else◌
+  unfolding start_step fresh_panel counts_sound when◌then◌else◌
   start_step_done h g = let q = also_both g in rw (h, g) (rw (eq_of {a = length e.outputs} {b = p.outputs} q.0, eq_of {a = length e.stations} {b = p.stations} q.1))
 
 -- ONE FRAME
 module _ (e : Panel) (b : Bytes) where
   pub frame_step_refused : panel_sound e ≡ false → frame_step e b ≡ panel_result e (Refused 1)
-  unfolding frame_step if◌then◌else◌
+  unfolding frame_step when◌then◌else◌
   frame_step_refused h = rw h
 
   pub frame_step_execute : panel_sound e ≡ true → frame_step e b ≡ execute b e (decide e b)
-  unfolding frame_step if◌then◌else◌
+  unfolding frame_step when◌then◌else◌
   frame_step_execute h = rw h
 
 -- WHILE TIME STANDS nothing changes
@@ -104,7 +104,7 @@ station_found p allowed c b h = station_within p (startable_of p allowed) c b (p
 judged_by_record_sure : (p : Parameters) (now c k : ℕ) (b : Bytes) (a : Station) (same : Bool) (f : Frame)
     → Startable p
     → k ≡ p.stations → FrameInRange p c b f → VerdictPrecondition now c k b (judged_by_record now a same f)
-unfolding judged_by_record judged_by_number retransmission_or_conflict if◌then◌else◌
+unfolding judged_by_record judged_by_number retransmission_or_conflict when◌then◌else◌
 judged_by_record_sure p now c k b a same (Bad r) allowed e g = tt
 judged_by_record_sure p now c k b a same (Clock t) allowed e g =
     by_lt t now (λ l z. rw z tt) (λ l z. rw z (record { due = l; time = g }))

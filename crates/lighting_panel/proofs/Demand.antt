@@ -5,7 +5,7 @@ use mathlib.Core.List.{List, []}
 use Prim.Native.Nat.{ℕ}
 use native.Mathlib.Omega.{arith}
 use lib.ListN.{length, replicate}
-use Rattle.lighting_levels.specs.Paper.Choice.{if◌then◌else◌}
+use Rattle.lighting_levels.specs.Paper.Choice.{when◌then◌else◌}
 use Rattle.lighting_outputs.specs.declared.Parameters.{Parameters}
 use Rattle.lighting_frames.specs.Paper.Frames.{Bytes, Strings}
 use Rattle.lighting_frames.specs.Paper.Stations.{fresh_station}
@@ -32,7 +32,7 @@ never_done r impossible = let one : ◌≡◌ {A = ℕ} 0 1 = cc in omega arith
 -- a start that answers Done was given a set that may be started, and leaves fresh records
 pub start_step_fresh : (p : Parameters) (marks : ℕ) (e : Panel) → (start_step p marks e).answer ≡ Done
     → (startable p ≡ true) × ((start_step p marks e).panel ≡ fresh_panel p marks)
-unfolding start_step if◌then◌else◌
+unfolding start_step when◌then◌else◌
 start_step_fresh p marks e h =
     by_bool (startable p)
     (λ x. by_bool

@@ -10,7 +10,7 @@ use native.Mathlib.Omega.{arith}
 use lib.Dec.{leb, ltb, eqb}
 use lib.ListN.{set, get_or, length, replicate, length-map, length-set, length-replicate, get_or-replicate}
 use lib.Seq.{get_or-set_same, get_or-set_other}
-use Rattle.lighting_levels.specs.Paper.Choice.{if◌then◌else◌, ◌also◌, Every, every}
+use Rattle.lighting_levels.specs.Paper.Choice.{when◌then◌else◌, ◌also◌, Every, every}
 use Rattle.lighting_outputs.specs.declared.Parameters.{Parameters}
 use Rattle.lighting_levels.specs.Paper.Field.{byte_at}
 use Rattle.lighting_frames.specs.Paper.Kinds.{kind_row, kind_length, is_call}
@@ -64,7 +64,7 @@ PastOther (clock t ∷ h) = PastOther h
 PastOther (first s n t b a ∷ h) = NotOne a × PastOther h
 
 latest_other : (s : ℕ) (h : List Event) → PastOther h → NotOne (latest s h).answer
-unfolding latest if◌then◌else◌
+unfolding latest when◌then◌else◌
 latest_other s [] j = not_one Done refl
 latest_other s (clock t ∷ h) j = latest_other s h j
 latest_other s (first s' n t b a ∷ h) j = by_bool (eqb s' s) (λ e. rw e j.0) (λ e. rw e (latest_other s h j.1))
@@ -97,15 +97,15 @@ linked_sound p marks c k w m =
     (also_yes (all_tested p w.panel.time w.panel.outputs m.sound) m.kept)))
 
 -- BOTH JUDGE ALIKE
-not_before : (a b : ℕ) {A : Type 0} (x y : A) → (if ltb a b then x else y) ≡ (if leb b a then y else x)
-unfolding if◌then◌else◌
+not_before : (a b : ℕ) {A : Type 0} (x y : A) → (when ltb a b then x else y) ≡ (when leb b a then y else x)
+unfolding when◌then◌else◌
 not_before a b x y =
     by_lt a b (λ h e. rw (e, leb_no {a = b} {b = a} h)) (λ h e. rw (e, leb_yes {a = b} {b = a} h))
 
 alike : (n a t now : ℕ) {A : Type 0} (same low late go : A)
-    → (if eqb n a then same else if ltb n a then low else if ltb t now then late else go)
-    ≡ (if ltb a n then (if leb now t then go else late) else if eqb n a then same else low)
-unfolding if◌then◌else◌
+    → (when eqb n a then same else when ltb n a then low else when ltb t now then late else go)
+    ≡ (when ltb a n then (when leb now t then go else late) else when eqb n a then same else low)
+unfolding when◌then◌else◌
 alike n a t now same low late go =
     by_eq
     n
@@ -157,7 +157,7 @@ Moved p c w b (Arrives call) = Arrived p c w b call
 
 pub judged_moved : (p : Parameters) (c : ℕ) (k : List Station) (w : PlainState) (b : Bytes) (f : Frame) → Refines p c k w → FrameInRange p c b f
     → Moved p c w b (judged w.past b f)
-unfolding judged retransmission_or_conflict if◌then◌else◌
+unfolding judged retransmission_or_conflict when◌then◌else◌
 judged_moved p c k w b (Bad r) m g = g
 judged_moved p c k w b (Clock t) m g =
     rw
@@ -210,14 +210,14 @@ step_same p marks c k w b (Arrives call) m g =
     rw (run_plain_advance p call.time w.panel g.due (omega (arith, g.frame.time)) m.sound)
 
 and_le : (a b c : ℕ) → b ≤ a → (leb a c also leb b c) ≡ leb a c
-unfolding if◌then◌else◌
+unfolding when◌then◌else◌
 and_le a b c h =
     by_le a c (λ j e. rw (e, leb_yes {a = b} {b = c} (omega arith))) (λ j e. rw e)
 
 tops_more : (s n s' n' t : ℕ) (b : Bytes) (a : Answer) (h : List Event)
     → above s' n' h ≡ ltb (latest s' h).number n' → (latest s h).number < n
     → above s' n' (first s n t b a ∷ h) ≡ ltb (latest s' (first s n t b a ∷ h)).number n'
-unfolding above latest if◌then◌else◌
+unfolding above latest when◌then◌else◌
 tops_more s n s' n' t b a h j l =
     by_eq
     s
@@ -233,13 +233,13 @@ kept_set (y ∷ k) (suc i) x h g = also_yes (also_both h).0 (kept_set k i x (als
 
 station_kept : (a : Answer) (n : ℕ) (b : Bytes) → is_call (byte_at b 0) ≡ true
     → station_sound (record { answer = a; number = n; frame = padded b }) ≡ true
-unfolding station_sound if◌then◌else◌
+unfolding station_sound when◌then◌else◌
 station_kept a n b y = by_bool (eqb n 0) (λ e. rw e) (λ e. rw (e, padded_kind b) y)
 
 known_set : (k : List Station) (s s' n t : ℕ) (b : Bytes) (a : Answer) (h : List Event) → s < length k → length b ≡ kind_length (byte_at b 0)
     → as_latest (get_or k s' fresh_station) ≡ latest s' h
     → as_latest (get_or (set k s (record { answer = a; number = n; frame = padded b })) s' fresh_station) ≡ latest s' (first s n t b a ∷ h)
-unfolding latest if◌then◌else◌
+unfolding latest when◌then◌else◌
 known_set k s s' n t b a h l z j =
     let x : Station = record { answer = a; number = n; frame = padded b } in
     by_eq
@@ -352,7 +352,7 @@ pub record Stepped (p : Parameters) (marks c : ℕ) (k : List Station) (w : Plai
 
 pub step : (p : Parameters) (marks c : ℕ) (k : List Station) (w : PlainState) (b : Bytes) → Octets b
     → Refines p c k w → Stepped p marks c k w b
-unfolding frame_step plain_frame_step if◌then◌else◌
+unfolding frame_step plain_frame_step when◌then◌else◌
 step p marks c k w b h m =
     let v = judged w.past b (parse p (length w.panel.outputs) b) in
     let g : Moved p c w b v = rw m.count (judged_moved p c k w b (parse p c b) m (frame_in_range p c b h)) in
@@ -390,12 +390,12 @@ listed p marks c k w (b ∷ l) s m =
     }
 
 kept_fresh : (n : ℕ) → every station_sound (replicate n fresh_station) ≡ true
-unfolding every station_sound fresh_station if◌then◌else◌
+unfolding every station_sound fresh_station when◌then◌else◌
 kept_fresh zero = refl
 kept_fresh (suc n) = also_yes refl (kept_fresh n)
 
 pub linked_start : (p : Parameters) → startable p ≡ true → Refines p p.outputs (replicate p.stations fresh_station) (plain_start p)
-unfolding plain_start latest above in_time if◌then◌else◌ restored kind_row kind_length byte_at fresh_station
+unfolding plain_start latest above in_time when◌then◌else◌ restored kind_row kind_length byte_at fresh_station
 linked_start p allowed =
     record {
       allowed = allowed;

@@ -6,7 +6,7 @@ use mathlib.Core.List.{[], ◌∷◌}
 use Prim.Native.Nat.{ℕ, ◌+◌, ◌≤◌, ◌<◌}
 use native.Mathlib.Omega.{arith}
 use lib.ListN.{length, take, get_or, length-take}
-use Rattle.lighting_levels.specs.Paper.Choice.{if◌then◌else◌}
+use Rattle.lighting_levels.specs.Paper.Choice.{when◌then◌else◌}
 use Rattle.lighting_levels.specs.Paper.Field.{byte_at}
 use Rattle.lighting_outputs.specs.declared.Parameters.{Parameters}
 use Rattle.lighting_frames.specs.Paper.Kinds.{longest_frame, kind_row, kind_length}
@@ -30,7 +30,7 @@ too_long ClockKind = 3
 too_long (CallKind action) = 3
 
 parse_by_long : (p : Parameters) (c l : ℕ) (k : Kind) (b : Bytes) → l < length b → parse_by p c l k b ≡ Bad (too_long k)
-unfolding parse_by if◌then◌else◌
+unfolding parse_by when◌then◌else◌
 parse_by_long p c l NoKind b h = refl
 parse_by_long p c l ClockKind b h = rw (eqb_miss {a = length b} {b = l} (λ e. omega arith))
 parse_by_long p c l (CallKind action) b h = rw (eqb_miss {a = length b} {b = l} (λ e. omega arith))
@@ -64,7 +64,7 @@ decide_long e b f h = rw h
 pub frame_step_first : (e : Panel) (b : Bytes) → longest_frame + 1 ≤ length b → frame_step e b ≡ frame_step e (take (longest_frame + 1) b)
 unfolding frame_step
 frame_step_first e b h =
-    ap (λ (s : Step). if panel_sound e then s else record { panel = e; answer = Refused 1 })
+    ap (λ (s : Step). when panel_sound e then s else record { panel = e; answer = Refused 1 })
     (alike (refusal b) (parse_long e.kept.parameters (length e.outputs) b h))
   where
     refused : (b : Bytes) (r : ℕ) → parse e.kept.parameters (length e.outputs) b ≡ Bad r → execute b e (decide e b) ≡ record { panel = e; answer = Refused r }

@@ -7,7 +7,7 @@ use Prim.Native.Nat.{ℕ, ◌≤◌, ◌<◌}
 use native.Mathlib.Omega.{arith}
 use lib.Dec.{eqb}
 use lib.ListN.{get_or, length, length-map}
-use Rattle.lighting_levels.specs.Paper.Choice.{if◌then◌else◌, every}
+use Rattle.lighting_levels.specs.Paper.Choice.{when◌then◌else◌, every}
 use Rattle.lighting_levels.specs.Paper.Field.{byte_at}
 use Rattle.lighting_outputs.specs.declared.Parameters.{Parameters}
 use Rattle.lighting_outputs.specs.Paper.Parameters.{four_hours}
@@ -64,7 +64,7 @@ taken_done : (p : Parameters) (tenant : Bool) (t : ℕ) (outputs : List Output) 
     → TakesFade request
     → i < length outputs → every (sound p t) outputs ≡ true
     → (served tenant t outputs i (ToOutput request)).answer ≡ Done
-unfolding served acted done settings_with relay_with same if◌then◌else◌
+unfolding served acted done settings_with relay_with same when◌then◌else◌
 taken_done p tenant t outputs i _ (written {v = v}) inside keep =
     let o = get_or outputs i fresh_output in
     let keeps = every_at p t outputs i inside keep in
@@ -80,7 +80,7 @@ PastShort (first station number t b a ∷ past) = (a ≡ Done → carries_longer
 
 latest_short : (station : ℕ) (past : List Event) → PastShort past
     → (latest station past).answer ≡ Done → carries_longer (latest station past).frame ≡ false
-unfolding latest carries fade_time_in time_within byte_at if◌then◌else◌
+unfolding latest carries fade_time_in time_within byte_at when◌then◌else◌
 latest_short station [] were = λ isDone. refl
 latest_short station (clock t ∷ past) were = latest_short station past were
 latest_short station (first sender number t b a ∷ past) were =
@@ -94,7 +94,7 @@ CopyShort b (Clocked t) = Unit {0}
 CopyShort b (Arrives call) = Unit {0}
 
 judged_short : (past : List Event) (b : Bytes) (frame : Frame) → PastShort past → CopyShort b (judged past b frame)
-unfolding judged retransmission_or_conflict if◌then◌else◌
+unfolding judged retransmission_or_conflict when◌then◌else◌
 judged_short past b (Bad r) were = tt
 judged_short past b (Clock t) were = by_bool (in_time t past) (λ timely. rw timely tt) (λ late. rw late tt)
 judged_short past b (Calls call) were =
@@ -152,7 +152,7 @@ module _ (c : ℕ) (k : List Station) (w : PlainState) (b : Bytes) (octets : Oct
     outputs = map (advance w.panel.time z.call.time) w.panel.outputs
 
     old_done : (old_frame e b).answer ≡ Done
-    unfolding old_frame old_execute execute outputs if◌then◌else◌
+    unfolding old_frame old_execute execute outputs when◌then◌else◌
     old_done =
         let t = z.call.time in
         let bounded : t ≤ greatest_count = omega (arith, arrival.frame.time) in
@@ -164,7 +164,7 @@ module _ (c : ℕ) (k : List Station) (w : PlainState) (b : Bytes) (octets : Oct
         (taken_done p _ t outputs z.call.output z.request z.takes inside (all_tested p t outputs all))
 
     today_refuses : (frame_step (today e) b).answer ≡ Refused 12
-    unfolding frame_step execute served if◌then◌else◌
+    unfolding frame_step execute served when◌then◌else◌
     today_refuses = rw (rules, z.now)
 
   -- ONE FRAME, which carries no longer fade time if the old panel answers it with Done
@@ -184,7 +184,7 @@ module _ (c : ℕ) (k : List Station) (w : PlainState) (b : Bytes) (octets : Oct
 
   -- and the other way round: where both answer alike, Done is of no frame that carries one
   old_answer : {v : Verdict} → old_decide e b ≡ v → (old_frame e b).answer ≡ (old_execute b e v).answer
-  unfolding old_frame if◌then◌else◌
+  unfolding old_frame when◌then◌else◌
   old_answer before = rw (sound_then e rules, before)
 
   frame_short : PastShort w.past → (frame_step (today e) b).answer ≡ (old_frame e b).answer

@@ -8,7 +8,7 @@ use Prim.Native.Nat.{ℕ, ◌≤◌}
 use native.Mathlib.Omega.{arith}
 use lib.Dec.{leb, ltb, eqb}
 use lib.ListN.{get_or, length, length-map, length-replicate}
-use Rattle.lighting_levels.specs.Paper.Choice.{if◌then◌else◌, ◌also◌, every}
+use Rattle.lighting_levels.specs.Paper.Choice.{when◌then◌else◌, ◌also◌, every}
 use Rattle.lighting_outputs.specs.declared.Parameters.{Parameters}
 use Rattle.lighting_outputs.specs.Paper.Parameters.{document01, four_hours}
 use Rattle.lighting_outputs.specs.Paper.Startable.{startable}
@@ -57,7 +57,7 @@ today e = with_set (set_of e) e
 -- REFUSAL 1. The counts: exactly so many outputs as there are is no restriction, and the range of the kept
 -- number is document 01's '0 or over 64 outputs'
 pub counts : (c k : ℕ) → (startable (four_hours c) also counts_sound (four_hours c) c k) ≡ old_counts c k
-unfolding startable within counts_sound old_counts if◌then◌else◌
+unfolding startable within counts_sound old_counts when◌then◌else◌
 counts c k =
     rw (eqb_hit {a = c} {b = c} refl)
     (by_bool (leb 1 c) (λ h. rw h (by_bool (leb c 64) (λ g. rw g) (λ g. rw g))) (λ h. rw h))
@@ -99,7 +99,7 @@ judged : {between : Bool} {long short : Frame} (now : ℕ) (stations : List Stat
     → ShortenedVerdict between
     (judged_by_station now (get_or stations (station_of long) fresh_station) b long)
     (judged_by_station now (get_or stations (station_of short) fresh_station) b short)
-unfolding judged_by_station judged_by_record judged_by_number station_of retransmission_or_conflict if◌then◌else◌
+unfolding judged_by_station judged_by_record judged_by_number station_of retransmission_or_conflict when◌then◌else◌
 judged now stations b bad = turned
 judged now stations b (clocked {t = t} none) =
     by_bool (ltb t now) (λ late. rw late turned) (λ timely. rw timely (timed none))
@@ -196,7 +196,7 @@ same_verdict e b never = by (compared e b)
 
 pub frame_by : (e : OldPanel) (b : Bytes) → panel_sound (today e) ≡ true → (Cut e b → ⊥)
     → frame_step (today e) b ≡ step_with (set_of e) (old_frame e b)
-unfolding frame_step old_frame if◌then◌else◌
+unfolding frame_step old_frame when◌then◌else◌
 frame_by e b h never =
     rw (h, sound_then e h, same_verdict e b never) (same_execute (set_of e) b e (old_decide e b))
 
@@ -217,7 +217,7 @@ execute_length b e (Arrives call) =
     ∙ length-map e.outputs (advance e.time call.time)
 
 frame_length : (e : OldPanel) (b : Bytes) → length (old_frame e b).panel.outputs ≡ length e.outputs
-unfolding old_frame if◌then◌else◌
+unfolding old_frame when◌then◌else◌
 frame_length e b = by_bool (old_sound e) (λ h. rw h (execute_length b e (old_decide e b))) (λ h. rw h)
 
 pub next : (e : OldPanel) (b : Bytes) → with_set (set_of e) (old_frame e b).panel ≡ today (old_frame e b).panel
@@ -242,23 +242,23 @@ module _ (e : Panel) (least : 1 ≤ length e.outputs) (most : length e.outputs �
   allowed = four_hours_startable c least most
 
   counted : counts_sound (four_hours c) c k ≡ old_counts c k
-  unfolding if◌then◌else◌
+  unfolding when◌then◌else◌
   counted = rw allowed at (counts c k)
 
   -- both are done, or both meet 1
   done : old_counts c k ≡ true → start_step (four_hours c) 0 e ≡ step_with (four_hours c) (old_start (without_set e))
-  unfolding old_start if◌then◌else◌
+  unfolding old_start when◌then◌else◌
   done h = rw (start_step_done (four_hours c) 0 e allowed (counted ∙ h), h, fresh (four_hours c) (omega arith))
 
   meets_one : old_counts c k ≡ false → start_step (four_hours c) 0 e ≡ panel_result e (Refused 1)
   meets_one h = start_step_refused (four_hours c) 0 e allowed (counted ∙ h)
 
   old_refused : old_counts c k ≡ false → old_start (without_set e) ≡ record { panel = without_set e; answer = Refused 1 }
-  unfolding old_start if◌then◌else◌
+  unfolding old_start when◌then◌else◌
   old_refused h = rw h
 
   old_length : old_counts c k ≡ true → length (old_start (without_set e)).panel.outputs ≡ c
-  unfolding old_start if◌then◌else◌
+  unfolding old_start when◌then◌else◌
   old_length h = rw h (length-replicate c fresh_output)
 
   pub starts_alike : StartsAlike e

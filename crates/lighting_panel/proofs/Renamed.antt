@@ -1,6 +1,6 @@
 -- FRAMES UNDER OTHER NAMES: a list in which each frame is put into another form that is read alike, and in
 -- which different frames stay different, finds and answers the same. Nothing here looks at a kind of frame.
-use Rattle.lighting_levels.specs.Paper.Choice.{if◌then◌else◌, Every}
+use Rattle.lighting_levels.specs.Paper.Choice.{when◌then◌else◌, Every}
 use mathlib.Core.Path.{◌≡◌, refl, ap, ◌∙◌}
 use mathlib.Core.List.{List, ◌∷◌, map, []}
 use Prim.Native.Nat.{ℕ}
@@ -52,13 +52,13 @@ module _ (p : Parameters) (marks : ℕ) (s : Bytes → Bytes) (Sort : Bytes → 
   rename_latest l = record { answer = l.answer; number = l.number; frame = s l.frame }
 
   latest_renamed : (k : ℕ) (h : List Event) → latest k (map rename h) ≡ rename_latest (latest k h)
-  unfolding latest if◌then◌else◌
+  unfolding latest when◌then◌else◌
   latest_renamed k [] = rw r.nothing
   latest_renamed k (clock t ∷ h) = latest_renamed k h
   latest_renamed k (first k' n t b a ∷ h) = by_bool (eqb k' k) (λ e. rw e) (λ e. rw e (latest_renamed k h))
 
   latest_sort : (k : ℕ) (h : List Event) → AllPast h → Sort (latest k h).frame
-  unfolding latest if◌then◌else◌
+  unfolding latest when◌then◌else◌
   latest_sort k [] g = r.empty
   latest_sort k (clock t ∷ h) g = latest_sort k h g
   latest_sort k (first k' n t b a ∷ h) g = by_bool (eqb k' k) (λ e. rw e g.0) (λ e. rw e (latest_sort k h g.1))

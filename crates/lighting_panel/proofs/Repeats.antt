@@ -6,7 +6,7 @@ use lib.ListN.{length}
 use Prim.Native.Nat.{ℕ, suc, ◌≤◌, ◌<◌}
 use native.Mathlib.Omega.{arith}
 use lib.Dec.{eqb}
-use Rattle.lighting_levels.specs.Paper.Choice.{if◌then◌else◌, Every}
+use Rattle.lighting_levels.specs.Paper.Choice.{when◌then◌else◌, Every}
 use Rattle.lighting_outputs.specs.declared.Parameters.{Parameters}
 use Rattle.lighting_frames.specs.Paper.Frames.{Bytes, Octets, Strings, parse}
 use Rattle.lighting_frames.specs.Paper.Copies.{same_bytes, retransmission_or_conflict}
@@ -51,7 +51,7 @@ spent_grows w w' (Calls call) g (late h) = late (omega (arith, g.time))
 
 plain_execute_grows : (p : Parameters) (marks c : ℕ) (k : List Station) (w : PlainState) (b : Bytes) (v : Verdict)
     → Refines p c k w → Moved p c w b v → Grows w (plain_execute marks b w v).state
-unfolding plain_execute latest if◌then◌else◌
+unfolding plain_execute latest when◌then◌else◌
 plain_execute_grows p marks c k w b (TurnedDown r) m g = record { time = omega arith; number = λ s. omega arith }
 plain_execute_grows p marks c k w b (Copied a) m g = record { time = omega arith; number = λ s. omega arith }
 plain_execute_grows p marks c k w b (Clocked t) m g =
@@ -70,7 +70,7 @@ plain_execute_grows p marks c k w b (Arrives call) m g =
 now_spent : (p : Parameters) (marks c : ℕ) (k : List Station) (w : PlainState) (b : Bytes) (f : Frame)
     → Refines p c k w → FrameInRange p c b f
     → Spent (plain_execute marks b w (judged w.past b f)).state f
-unfolding judged retransmission_or_conflict plain_execute latest if◌then◌else◌
+unfolding judged retransmission_or_conflict plain_execute latest when◌then◌else◌
 now_spent p marks c k w b (Bad r) m g = tt
 now_spent p marks c k w b (Clock t) m g =
     rw
@@ -106,7 +106,7 @@ now_spent p marks c k w b (Calls call) m g =
 stays : (p : Parameters) (marks c : ℕ) (k : List Station) (w : PlainState) (b : Bytes) (f : Frame)
     → Refines p c k w → FrameInRange p c b f → Spent w f
     → (execute b (joined p marks k w) (judged w.past b f)).panel ≡ joined p marks k w
-unfolding judged retransmission_or_conflict execute if◌then◌else◌
+unfolding judged retransmission_or_conflict execute when◌then◌else◌
 stays p marks c k w b (Bad r) m g h = refl
 stays p marks c k w b (Clock t) m g h =
     rw
@@ -157,7 +157,7 @@ all_grow p c w w' l g h =
 engine_stays : (p : Parameters) (marks c : ℕ) (k : List Station) (w : PlainState) (b : Bytes) → Octets b
     → Refines p c k w → Spent w (parse p c b)
     → (frame_step (joined p marks k w) b).panel ≡ joined p marks k w
-unfolding frame_step if◌then◌else◌
+unfolding frame_step when◌then◌else◌
 engine_stays p marks c k w b o m h =
     rw
     (linked_sound p marks c k w m, decide_judged p marks c k w b o m, m.count)

@@ -8,7 +8,7 @@ use Prim.Native.Nat.{ℕ, ◌≤◌, ◌<◌}
 use native.Mathlib.Omega.{arith}
 use lib.Dec.{ltb, eqb}
 use lib.ListN.{get_or, length}
-use Rattle.lighting_levels.specs.Paper.Choice.{if◌then◌else◌}
+use Rattle.lighting_levels.specs.Paper.Choice.{when◌then◌else◌}
 use Rattle.lighting_levels.specs.Paper.Field.{byte_at, big_endian}
 use Rattle.lighting_outputs.specs.declared.Parameters.{Parameters}
 use Rattle.lighting_outputs.specs.Engine.Advance.{advance}
@@ -49,17 +49,17 @@ reading b = call_of (record { stations = 0; outputs = 0; fade = 0; duration = 0 
 
 abbrev read_by : ℕ → ℕ → Bytes → Frame
 read_by stations outputs b =
-    if eqb (length b) 14
+    when eqb (length b) 14
     then (
-    if ltb (byte_at b 1) stations
-    then (if eqb (big_endian 4 b 2) 0 then Bad 4 else if ltb (byte_at b 12) outputs then Calls (reading b) else Bad 5)
+    when ltb (byte_at b 1) stations
+    then (when eqb (big_endian 4 b 2) 0 then Bad 4 else when ltb (byte_at b 12) outputs then Calls (reading b) else Bad 5)
     else Bad 4
     )
     else Bad 3
 
 parsed : (p : Parameters) (outputs : ℕ) (b : Bytes) → OfKind05 b
     → parse p outputs b ≡ read_by p.stations outputs b
-unfolding parse parse_by kind_row called call_of request_of reading if◌then◌else◌
+unfolding parse parse_by kind_row called call_of request_of reading when◌then◌else◌
 parsed p outputs b kind = rw kind
 
 -- the tables have as many outputs as the set says
@@ -80,7 +80,7 @@ judged_by stations outputs now k b = judged_by_station now k b (read_by stations
 by_sender : (stations outputs now : ℕ) (table : List Station) (b : Bytes)
     → judged_by_station now (get_or table (station_of (read_by stations outputs b)) fresh_station) b (read_by stations outputs b)
     ≡ judged_by stations outputs now (get_or table (sender b) fresh_station) b
-unfolding judged_by_station judged_by_record station_of reading call_of if◌then◌else◌
+unfolding judged_by_station judged_by_record station_of reading call_of when◌then◌else◌
 by_sender stations outputs now table b =
     by_bool (eqb (length b) 14)
     (λ l. rw l
@@ -104,7 +104,7 @@ decided e b kind h =
 
 judged_05 : (e : Panel) (b : Bytes) (stations outputs : ℕ) (k : Station) → length e.outputs ≡ outputs
     → Judged05 e b (judged_by stations outputs e.kept.time k b)
-unfolding judged_by_station judged_by_record judged_by_number retransmission_or_conflict if◌then◌else◌
+unfolding judged_by_station judged_by_record judged_by_number retransmission_or_conflict when◌then◌else◌
 judged_05 e b stations outputs k size =
     by_bool (eqb (length b) 14)
     (λ l. rw l
@@ -121,7 +121,7 @@ judged_05 e b stations outputs k size =
   where
     arriving : byte_at b 12 < outputs
         → Judged05 e b (judged_by_number e.kept.time k (same_bytes b (restored k.frame)) (reading b))
-    arriving inside = unfold judged_by_number retransmission_or_conflict if◌then◌else◌ in
+    arriving inside = unfold judged_by_number retransmission_or_conflict when◌then◌else◌ in
         (by_bool (eqb (reading b).number k.number)
         (λ again. rw again
         (by_bool (same_bytes b (restored k.frame)) (λ same. rw same copied) (λ differ. rw differ turned)))

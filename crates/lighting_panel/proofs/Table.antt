@@ -11,7 +11,7 @@ use lib.Dec.{leb}
 use lib.Ieee.{of_bits}
 use lib.ListN.{set, get_or, length, replicate, length-set}
 use lib.Seq.{get_or-set_other}
-use Rattle.lighting_levels.specs.Paper.Choice.{if◌then◌else◌, all_from, Every, every}
+use Rattle.lighting_levels.specs.Paper.Choice.{when◌then◌else◌, all_from, Every, every}
 use Rattle.lighting_outputs.specs.declared.Parameters.{Parameters}
 use Rattle.lighting_outputs.specs.Paper.Parameters.{fresh_fade}
 use Rattle.lighting_levels.specs.Paper.Level.{real, amount_of, in_range}
@@ -48,7 +48,7 @@ pub all_tested : (p : Parameters) (t : ℕ) (l : List Output) → AllSound p t l
 all_tested p t l a = every_tested (Lawful p t) (sound p t) l (facts_sound p t) a
 
 fresh_tested : (p : Parameters) → Startable p → sound p 0 (fresh_for p) ≡ true
-unfolding if◌then◌else◌ all_from real of_bits amount_of in_range view slots_of is_live first_live winner level_at winning_level clamp_lit present_value within is_level is_amount is_slot meets levels_sound times_sound reals_sound settings_sound slot_sound slots_sound activity_by activity_sound timer_sound agrees binary_at relay_sound sound fresh_settings fresh_relay fresh_with fresh_for
+unfolding when◌then◌else◌ all_from real of_bits amount_of in_range view slots_of is_live first_live winner level_at winning_level clamp_lit present_value within is_level is_amount is_slot meets levels_sound times_sound reals_sound settings_sound slot_sound slots_sound activity_by activity_sound timer_sound agrees binary_at relay_sound sound fresh_settings fresh_relay fresh_with fresh_for
 fresh_tested p allowed =
     let short : leb 100 (fresh_fade p) ≡ true = leb_yes {a = 100} {b = fresh_fade p} (omega (arith, allowed.fade)) in
     let long : leb (fresh_fade p) p.fade ≡ true = leb_yes {a = fresh_fade p} {b = p.fade} (omega arith) in

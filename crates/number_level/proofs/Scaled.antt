@@ -14,7 +14,7 @@ use lib.Ieee.Back.{unsigned_back}
 use lib.Ieee.Scale.{round_same}
 use lib.Ieee.Positive.{positive, le→cross, between}
 use borrow.Author.Tests.{le-leb}
-use Rattle.lighting_levels.specs.Paper.Choice.{if◌then◌else◌}
+use Rattle.lighting_levels.specs.Paper.Choice.{when◌then◌else◌}
 use Rattle.lighting_levels.specs.declared.Level.TheVariants.{Units}
 use Rattle.lighting_levels.specs.Paper.Level.{nearest_to, amount_of}
 use Rattle.lighting_levels.proofs.Rounding.{nearest_same, nearest_mono}
@@ -68,7 +68,7 @@ pub record Scaled (x : Float) : Type 0 where
   pub amount : amount_of x ≡ Units (nearest_to n 1024)
 
 pub scaled : (x : Float) → T (fits binary32 x) → T (le eighth x) → T (le x hundred) → Scaled x
-unfolding amount_of is_nan if◌then◌else◌
+unfolding amount_of is_nan when◌then◌else◌
 scaled x f h k = go x f h k (between eighth x hundred tt tt h k)
   where
     go : (x : Float) → T (fits binary32 x) → T (le eighth x) → T (le x hundred) → T (positive x) → Scaled x

@@ -11,7 +11,7 @@ use lib.Ieee.Order.{le_of_values}
 use borrow.Author.Tests.{ltb-true, ltb-false, le-ltb, lt-ltb, le-leb, lt-leb, eq-eqb, ne_eqb}
 use Rattle.lighting_levels.specs.declared.Level.{Level}
 use Rattle.lighting_levels.specs.declared.Level.TheVariants.{Units, OutOfRange}
-use Rattle.lighting_levels.specs.Paper.Choice.{if◌then◌else◌, ◌also◌}
+use Rattle.lighting_levels.specs.Paper.Choice.{when◌then◌else◌, ◌also◌}
 use Rattle.lighting_levels.specs.Paper.Level.{amount_of, limit_of, level_of}
 use Rattle.number_level.proofs.Scaled.{eighth, hundred}
 
@@ -21,8 +21,8 @@ one = fin false 1 (pos 0)
 abbrev pub nil : Float
 nil = fin false 0 (pos 0)
 
-both_no : (p q : Bool) (a b : Level) → (T p → T q → ⊥) → (if p also q then a else b) ≡ b
-unfolding if◌then◌else◌
+both_no : (p q : Bool) (a b : Level) → (T p → T q → ⊥) → (when p also q then a else b) ≡ b
+unfolding when◌then◌else◌
 both_no true true a b h = absurd (h tt tt)
 both_no true false a b h = refl
 both_no false q a b h = refl
@@ -51,14 +51,14 @@ too_high_lem (fin false m e) h =
 
 -- ---- below 1, and not below 1
 pub under_one : (x : Float) → lt x one ≡ true → limit_of x ≡ OutOfRange
-unfolding limit_of lt if◌then◌else◌
+unfolding limit_of lt when◌then◌else◌
 under_one nan h = refl
 under_one (inf s) h = refl
 under_one (fin true m e) h = refl
 under_one (fin false m e) h = rw (lt-leb (8 * down e) (m * up e * 8) (omega (arith, ltb-true (m * up e * 1) (1 * down e) h)))
 
 pub from_one : (x : Float) → lt x one ≡ false → amount_of x ≡ limit_of x
-unfolding limit_of amount_of lt if◌then◌else◌
+unfolding limit_of amount_of lt when◌then◌else◌
 from_one nan h = refl
 from_one (inf s) h = refl
 from_one (fin true m e) h = refl
@@ -68,12 +68,12 @@ from_one (fin false m e) h =
 
 -- ---- 0, above 0, and neither
 zero_is : (s : Bool) (m : ℕ) (e : ℤ) → m * up e ≡ 0 → level_of (fin s m e) ≡ Units 0
-unfolding level_of if◌then◌else◌
+unfolding level_of when◌then◌else◌
 zero_is true m e h = rw (eq-eqb (m * up e) 0 h)
 zero_is false m e h = rw (eq-eqb (m * up e) 0 h)
 
 pub at_zero : (x : Float) → eq x nil ≡ true → level_of x ≡ Units 0
-unfolding level_of eq if◌then◌else◌
+unfolding level_of eq when◌then◌else◌
 at_zero nan h = absurd (false≢true h)
 at_zero (inf s) h = absurd (false≢true h)
 at_zero (fin s m e) h =
@@ -81,7 +81,7 @@ at_zero (fin s m e) h =
     zero_is s m e (omega arith)
 
 pub small : (x : Float) → lt nil x ≡ true → lt x one ≡ true → level_of x ≡ Units 65536
-unfolding level_of lt if◌then◌else◌
+unfolding level_of lt when◌then◌else◌
 small nan h k = absurd (false≢true h)
 small (inf true) h k = absurd (false≢true h)
 small (inf false) h k = absurd (false≢true k)
@@ -92,7 +92,7 @@ small (fin false m e) h k =
     rw (ne_eqb (m * up e) 0 (λ z. omega arith), lt-ltb (m * up e) (down e) (omega arith))
 
 pub large : (x : Float) → lt nil x ≡ true → lt x one ≡ false → limit_of x ≡ level_of x
-unfolding level_of limit_of lt if◌then◌else◌
+unfolding level_of limit_of lt when◌then◌else◌
 large nan h k = refl
 large (inf s) h k = refl
 large (fin true m e) h k = absurd (false≢true h)
@@ -107,7 +107,7 @@ is_nil true m e h = rw (eq-eqb (m * up e * 1) (0 * down e) (omega arith), eq-eqb
 is_nil false m e h = rw (eq-eqb (m * up e * 1) (0 * down e) (omega arith))
 
 pub negative : (x : Float) → eq x nil ≡ false → lt nil x ≡ false → level_of x ≡ OutOfRange
-unfolding level_of lt if◌then◌else◌
+unfolding level_of lt when◌then◌else◌
 negative nan h k = refl
 negative (inf s) h k = refl
 negative (fin true m e) h k = rw (ne_eqb (m * up e) 0 (λ z. true≢false (sym (is_nil true m e z) ∙ h)))

@@ -7,7 +7,7 @@ use Prim.Native.Nat.{ℕ, zero, suc, ◌-◌, ◌*◌, ◌/◌, ◌≤◌, ◌<�
 use native.Mathlib.Nat.{one-mul, mul-zero, mul_comm, zero-div, le-div_iff_mul-le, div-lt_iff_lt-mul}
 use native.Mathlib.Omega.{arith}
 use borrow.Author.Tests.{ne_eqb}
-use Rattle.lighting_levels.specs.Paper.Choice.{if◌then◌else◌}
+use Rattle.lighting_levels.specs.Paper.Choice.{when◌then◌else◌}
 use Rattle.lighting_outputs.specs.Engine.Light.{last_short, moment_after, gone_at}
 use Rattle.lighting_outputs.specs.declared.Moment.{Moment}
 use Rattle.lighting_outputs.specs.declared.Movement.{Movement}
@@ -15,7 +15,7 @@ use Rattle.lighting_levels.proofs.Split.{by_lt, leb_no}
 
 -- something goes: the moment after the last millisecond short
 gone_by : (u s w : ℕ) (m : Movement) → (s ≡ 0 → ⊥) → gone_at u s w m ≡ moment_after (last_short u s w) m
-unfolding gone_at if◌then◌else◌
+unfolding gone_at when◌then◌else◌
 gone_by u s w m h = rw (ne_eqb s 0 h)
 
 -- THE FIRST UNIT: no product
@@ -41,7 +41,7 @@ short_all u s w r h i e = e ∙ rw i (sym (of_all s w h))
 -- A QUOTIENT past the length counts as the length: the movement is over by then. So 32 bits hold what is kept
 -- of it
 at_most_length : (k : ℕ) (m : Movement) → moment_after (min m.length k) m ≡ moment_after k m
-unfolding moment_after if◌then◌else◌
+unfolding moment_after when◌then◌else◌
 at_most_length k m =
     by_lt k m.length
     (λ l e. let z : min m.length k ≡ k = omega arith in rw z)

@@ -5,7 +5,7 @@
 ghost use Rattle.std.specs.Prelude.{◌≡◌, ◌+◌, ◌-◌, min};
 ghost use Rattle.lighting_outputs.specs.Engine.Advance.{sooner, due, burned_by, with_burned_saturating, fire_due, event_step, event_steps, advance, later};
 ghost use Rattle.lighting_outputs.specs.Engine.Light.{lit_in_movement, lit_resting};
-ghost use Rattle.lighting_levels.specs.Paper.Choice.{if◌then◌else◌};
+ghost use Rattle.lighting_levels.specs.Paper.Choice.{when◌then◌else◌};
 ghost use Rattle.lighting_outputs.specs.Paper.Value.{present_value};
 
 use lighting_outputs::{Moment, Output};
@@ -81,7 +81,7 @@ fn fire_due(d: u64, o: Output) -> Output
 // stretch: a second one would be passed the record by value, which costs more than the stretch.
 #[tactic(auto, using(lighting_levels::proofs::Choosing::ifs), unfolding(lighting_outputs::specs::Engine::Advance::event_step, lighting_outputs::specs::Engine::Advance::event_steps))]
 fn stretch(now: u64, d: u64, fires: bool, o: Output) -> Output
-    ensures { result ≡ (if fires then event_step now d o else event_steps 0 now d o) }
+    ensures { result ≡ (when fires then event_step now d o else event_steps 0 now d o) }
 {
     let burned = with_burned_saturating(now, output_value::since(now, d), o);
     if fires { fire_due(d, burned) } else { burned }

@@ -6,7 +6,7 @@ use mathlib.Core.Bool.{Bool, true, false}
 use Prim.Native.Nat.{ℕ, suc, ◌<◌}
 use native.Mathlib.Omega.{arith}
 use lib.Dec.{ltb, leb, eqb}
-use Rattle.lighting_levels.specs.Paper.Choice.{if◌then◌else◌, ◌also◌}
+use Rattle.lighting_levels.specs.Paper.Choice.{when◌then◌else◌, ◌also◌}
 use Rattle.lighting_outputs.specs.declared.Parameters.{Parameters}
 use Rattle.lighting_levels.specs.Paper.Level.{least_level, greatest_level}
 use Rattle.lighting_outputs.specs.Paper.Rows.{within, is_level, meets}
@@ -18,17 +18,17 @@ use Rattle.lighting_outputs.proofs.Rules.Tied.{within_of}
 
 module _ (v : ℕ) (r : Relay) where
   abbrev low : Bool
-  low = if eqb r.inactive 0 then true else leb least_level r.inactive
+  low = when eqb r.inactive 0 then true else leb least_level r.inactive
 
   abbrev binary : Bool
-  binary = if r.binary then ltb r.inactive v else ltb v r.active
+  binary = when r.binary then ltb r.inactive v else ltb v r.active
 
   active : r.inactive < r.active → within least_level greatest_level r.active ≡ is_level r.active
-  unfolding is_level if◌then◌else◌
+  unfolding is_level when◌then◌else◌
   active h = rw (eqb_miss {a = r.active} {b = 0} (omega arith))
 
   inactive : r.inactive < r.active → within least_level greatest_level r.active ≡ true → low ≡ is_level r.inactive
-  unfolding is_level within if◌then◌else◌
+  unfolding is_level within when◌then◌else◌
   inactive h e =
       let top : leb r.inactive greatest_level ≡ true = leb_yes {a = r.inactive} {b = greatest_level} (omega (arith, within_of least_level greatest_level r.active e)) in
       by_bool
@@ -37,7 +37,7 @@ module _ (v : ℕ) (r : Relay) where
       (λ f. rw f (by_bool (leb least_level r.inactive) (λ g. rw (g, top)) (λ g. rw g)))
 
   judged : r.inactive < r.active → binary ≡ agrees r.binary (binary_at v r)
-  unfolding agrees binary_at if◌then◌else◌
+  unfolding agrees binary_at when◌then◌else◌
   judged h =
       by_le
       r.active
@@ -53,13 +53,13 @@ module _ (v : ℕ) (r : Relay) where
 
   -- three tests of which the third fails
   fails : (a b c : Bool) → (a also b also false also c) ≡ false
-  unfolding if◌then◌else◌
+  unfolding when◌then◌else◌
   fails true true c = refl
   fails true false c = refl
   fails false b c = refl
 
   all : (p : Parameters) → (ltb r.inactive r.active also within least_level greatest_level r.active also low also binary) ≡ relay_sound p v r
-  unfolding relay_sound meets if◌then◌else◌
+  unfolding relay_sound meets when◌then◌else◌
   all p =
       by_lt
       r.inactive

@@ -3,7 +3,7 @@
 #![tactic(auto)]
 
 ghost use Rattle.std.specs.Prelude.{◌≡◌, true, ltb, leb, eqb};
-ghost use Rattle.lighting_levels.specs.Paper.Choice.{if◌then◌else◌};
+ghost use Rattle.lighting_levels.specs.Paper.Choice.{when◌then◌else◌};
 ghost use Rattle.lighting_levels.specs.Paper.Level.{least_level};
 ghost use Rattle.lighting_outputs.specs.declared.Parameters.{Parameters};
 ghost use Rattle.lighting_outputs.specs.Paper.Relay.{binary_at, switched, relay_state, inactive_not_below};
@@ -65,7 +65,7 @@ pub fn inactive_not_below(relay: Relay) -> bool
 // 0, or from 1 percent on: of a value that is below a level.
 #[tactic(auto, using(lighting_levels::proofs::Choosing::ifs))]
 fn is_low_level(inactive: u32) -> bool
-    ensures { result ≡ (if eqb inactive 0 then true else leb least_level inactive) }
+    ensures { result ≡ (when eqb inactive 0 then true else leb least_level inactive) }
 {
     if inactive == 0 {
         true
@@ -78,7 +78,7 @@ fn is_low_level(inactive: u32) -> bool
 // where inactive, below the active one.
 #[tactic(auto, using(lighting_levels::proofs::Choosing::ifs))]
 fn is_judged(v: u32, relay: Relay) -> bool
-    ensures { result ≡ (if relay.binary then ltb relay.inactive v else ltb v relay.active) }
+    ensures { result ≡ (when relay.binary then ltb relay.inactive v else ltb v relay.active) }
 {
     if relay.binary {
         relay.inactive < v

@@ -9,7 +9,7 @@ use native.Mathlib.Omega.{arith}
 use lib.Bits.{bit_and, and_step, and_self}
 use lib.Count.{count_trailing_zeros, trailing_of_zero}
 use lib.ListN.{get_or}
-use Rattle.lighting_levels.specs.Paper.Choice.{if◌then◌else◌, ◌also◌, all_from}
+use Rattle.lighting_levels.specs.Paper.Choice.{when◌then◌else◌, ◌also◌, all_from}
 use Rattle.lighting_outputs.specs.Paper.Slots.{is_live}
 use Rattle.lighting_outputs.specs.declared.Slots.{Slots}
 use Rattle.lighting_outputs.specs.Paper.Rows.{is_level}
@@ -103,7 +103,7 @@ module _ (m : ℕ) (l : List ℕ) (h : count_trailing_zeros 16 m < 16) (i v : �
   low_done k = all_same (slot_sound (slots_with m l)) (slot_sound (slots_with (bit_and m (m - 1)) l)) same 16 0
     where
       at : slot_sound (slots_with m l) i ≡ slot_sound (slots_with (bit_and m (m - 1)) l) i
-      at = unfold slot_sound is_live if◌then◌else◌ in (rw (e, low_set 16 m h, low_cleared 16 m h) (rw (n, e) at k))
+      at = unfold slot_sound is_live when◌then◌else◌ in (rw (e, low_set 16 m h, low_cleared 16 m h) (rw (n, e) at k))
 
       same : (j : ℕ) → slot_sound (slots_with m l) j ≡ slot_sound (slots_with (bit_and m (m - 1)) l) j
       same j = by_eq j i (λ p z. rw p at) (λ p z. unfold slot_sound is_live in (rw (low_others 16 m j h (λ q. p (q ∙ sym e)))))
@@ -117,10 +117,10 @@ module _ (m : ℕ) (l : List ℕ) (h : count_trailing_zeros 16 m < 16) (i v : �
       (λ z. z)
     where
       broken : slot_sound (slots_with m l) i ≡ false
-      broken = unfold slot_sound is_live if◌then◌else◌ in (rw (e, low_set 16 m h) (rw (n, e) at k))
+      broken = unfold slot_sound is_live when◌then◌else◌ in (rw (e, low_set 16 m h) (rw (n, e) at k))
 
 -- NO LIVE SLOT
 pub none_live : (s : Slots) → s.live ≡ 0 → slots_sound s ≡ true
 unfolding slots_sound
 none_live s e =
-    each_all (slot_sound s) 16 0 (λ j h k. unfold slot_sound is_live if◌then◌else◌ in (rw (e, zero-div (2 ^ j))))
+    each_all (slot_sound s) 16 0 (λ j h k. unfold slot_sound is_live when◌then◌else◌ in (rw (e, zero-div (2 ^ j))))

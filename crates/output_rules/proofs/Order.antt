@@ -4,7 +4,7 @@ use mathlib.Core.Path.{◌≡◌, refl, sym, ap, ◌∙◌}
 use mathlib.Core.Bool.{Bool, true, false}
 use Prim.Native.Nat.{ℕ}
 use lib.Dec.{leb}
-use Rattle.lighting_levels.specs.Paper.Choice.{if◌then◌else◌, ◌also◌}
+use Rattle.lighting_levels.specs.Paper.Choice.{when◌then◌else◌, ◌also◌}
 use Rattle.lighting_outputs.specs.Paper.Slots.{is_live, slot6, winner}
 use Rattle.lighting_outputs.specs.Paper.Value.{present_value}
 use Rattle.lighting_outputs.specs.Paper.Rules.{settings_sound, slots_sound, activity_by, activity_sound, timer_sound, relay_sound, sound}
@@ -12,14 +12,14 @@ use Rattle.lighting_outputs.specs.declared.Output.{Output}
 use Rattle.lighting_outputs.specs.declared.Parameters.{Parameters}
 
 swapped : (a b : Bool) → (a also b) ≡ (b also a)
-unfolding if◌then◌else◌
+unfolding when◌then◌else◌
 swapped true true = refl
 swapped true false = refl
 swapped false true = refl
 swapped false false = refl
 
 grouped : (a b c : Bool) → ((a also b) also c) ≡ (a also (b also c))
-unfolding if◌then◌else◌
+unfolding when◌then◌else◌
 grouped true b c = refl
 grouped false b c = refl
 
@@ -62,5 +62,5 @@ in_order p t o v r q e =
 -- where it has not been looked up: f is what the test of the settings said
 pub settings_first :
     (p : Parameters) (t : ℕ) (o : Output) (f r : Bool) → f ≡ settings_sound p o.settings → f ≡ false → r ≡ false → r ≡ sound p t o
-unfolding sound if◌then◌else◌
+unfolding sound when◌then◌else◌
 settings_first p t o f r q h e = e ∙ rw (sym q ∙ h)

@@ -2,7 +2,7 @@
 #![tactic(auto)]
 
 ghost use Rattle.std.specs.Prelude.{◌≡◌, ◌+◌};
-ghost use Rattle.lighting_levels.specs.Paper.Choice.{if◌then◌else◌};
+ghost use Rattle.lighting_levels.specs.Paper.Choice.{when◌then◌else◌};
 ghost use Rattle.lighting_outputs.specs.Paper.Tenants.{shown_level, hidden};
 ghost use Rattle.lighting_outputs.specs.Paper.Properties.{level_answer, slot_answer, flag, elapsed_active, real_answer, real_field_answer, time_field_answer, last_duration, read_property};
 
@@ -38,7 +38,7 @@ fn slot_answer(s: Slots, i: u8) -> Answer
 // To a tenant slots 1 to 6 are absent, live or not.
 #[tactic(auto, using(lighting_levels::proofs::Choosing::ifs))]
 fn unhidden_answer(tenant: bool, s: Slots, i: u8) -> Answer
-    ensures { result ≡ (if hidden tenant i then Answer.Absent else slot_answer s i) }
+    ensures { result ≡ (when hidden tenant i then Answer.Absent else slot_answer s i) }
 {
     if tenant_view::is_hidden(tenant, i) {
         Answer::Absent

@@ -5,7 +5,7 @@ use mathlib.Core.List.{List, [], ◌∷◌}
 use Prim.Native.Nat.{ℕ, ◌≤◌, ◌<◌, ◌-◌}
 use native.Mathlib.Omega.{arith}
 use lib.Dec.{eqb}
-use Rattle.lighting_levels.specs.Paper.Choice.{if◌then◌else◌, ◌also◌}
+use Rattle.lighting_levels.specs.Paper.Choice.{when◌then◌else◌, ◌also◌}
 use Rattle.lighting_outputs.specs.Paper.Properties.{properties, number_of, numbered, property_of}
 use Rattle.lighting_outputs.specs.declared.Property.{Property}
 use Rattle.lighting_outputs.specs.declared.Property.TheVariants.{SlotValue, Unknown}
@@ -20,7 +20,7 @@ row_at [] n = Unknown
 row_at (first ∷ rest) n = cond (eqb n (number_of first)) first (row_at rest n)
 
 row_numbered : (l : List Property) (n : ℕ) → row_at l n ≡ numbered l n
-unfolding numbered if◌then◌else◌
+unfolding numbered when◌then◌else◌
 row_numbered [] n = refl
 row_numbered (first ∷ rest) n = by_bool (eqb n (number_of first)) (λ e. rw e) (λ e. rw e (row_numbered rest n))
 
@@ -53,7 +53,7 @@ all_in [] ks = true
 all_in (x ∷ l) ks = is_in (number_of x) ks also all_in l ks
 
 missed : (n m : ℕ) (ks : List ℕ) → is_in m ks ≡ true → Missed ks n → n ≡ m → ⊥
-unfolding if◌then◌else◌
+unfolding when◌then◌else◌
 missed n m [] h o e = false≢true h
 missed n m (k ∷ ks) h o e = by_eq m k (λ p q. o.1 (e ∙ p)) (λ p q. missed n m ks (rw q at h) o.0 e)
 
@@ -65,7 +65,7 @@ past (x ∷ l) n ks h o =
 
 -- below the slots, and above
 pub property_of_none : (n : ℕ) → Missed keys n → n < 33 → Unknown ≡ property_of n
-unfolding property_of if◌then◌else◌
+unfolding property_of when◌then◌else◌
 property_of_none n o high = if_nle _ _ _ _ _ high (past properties n keys refl o)
 
 pub property_of_above : (n : ℕ) → 48 < n → Unknown ≡ property_of n

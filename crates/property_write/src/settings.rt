@@ -1,7 +1,7 @@
 // What a write of a property changes: one setting, and with it the movement or the burning time. `n` is the
 // property that is written, `v` its value as it is kept.
 ghost use Rattle.std.specs.Prelude.{◌≡◌, ◌%◌, eqb};
-ghost use Rattle.lighting_levels.specs.Paper.Choice.{if◌then◌else◌};
+ghost use Rattle.lighting_levels.specs.Paper.Choice.{when◌then◌else◌};
 ghost use Rattle.lighting_levels.specs.Paper.Level.{real};
 ghost use Rattle.lighting_outputs.specs.Paper.Properties.{same, settings_with, relay_with, end_movement, activity_with, burning_with, changed, min_over_max};
 
@@ -12,14 +12,14 @@ use lighting_outputs::{Activity, Output, Property, Relay, Settings};
 
 #[tactic(auto, using(lighting_levels::proofs::Choosing::ifs))]
 fn number_with(field: Property, n: Property, v: u32, was: u32) -> u32
-    ensures { result ≡ (if same field n then v else was) }
+    ensures { result ≡ (when same field n then v else was) }
 {
     if is_same(field, n) { v } else { was }
 }
 
 #[tactic(auto, using(lighting_levels::proofs::Choosing::ifs))]
 fn real_with(field: Property, n: Property, v: u32, was: f32) -> f32
-    ensures { result ≡ (if same field n then real v else was) }
+    ensures { result ≡ (when same field n then real v else was) }
 {
     if is_same(field, n) {
         number_level::real_from(v)
@@ -30,14 +30,14 @@ fn real_with(field: Property, n: Property, v: u32, was: f32) -> f32
 
 #[tactic(auto, using(lighting_levels::proofs::Choosing::ifs))]
 fn flag_with(field: Property, n: Property, v: u32, was: bool) -> bool
-    ensures { result ≡ (if same field n then eqb v 1 else was) }
+    ensures { result ≡ (when same field n then eqb v 1 else was) }
 {
     if is_same(field, n) { v == 1 } else { was }
 }
 
 #[tactic(auto, using(lighting_levels::proofs::Choosing::ifs))]
 fn slot_with(field: Property, n: Property, v: u32, was: u8) -> u8
-    ensures { result ≡ (if same field n then v % 256 else was) }
+    ensures { result ≡ (when same field n then v % 256 else was) }
 {
     if is_same(field, n) {
         (v % 256) as u8

@@ -7,7 +7,7 @@ use Prim.Native.Nat.{ℕ, ◌≤◌}
 use native.Mathlib.Omega.{arith}
 use lib.ListN.{length, drop, length-map, length-set, length-append, length-replicate}
 use lib.Seq.{take_at, length-take-le}
-use Rattle.lighting_levels.specs.Paper.Choice.{if◌then◌else◌}
+use Rattle.lighting_levels.specs.Paper.Choice.{when◌then◌else◌}
 use Rattle.lighting_outputs.specs.declared.Parameters.{Parameters}
 use Rattle.lighting_outputs.specs.Paper.Startable.{startable}
 use Rattle.lighting_frames.specs.Paper.Frames.{Bytes, Strings}
@@ -63,7 +63,7 @@ execute_alike b e (Arrives call) =
     }
 
 frame_step_alike : (e : Panel) (b : Bytes) → Alike e (frame_step e b).panel
-unfolding frame_step if◌then◌else◌
+unfolding frame_step when◌then◌else◌
 frame_step_alike e b =
     by_bool (panel_sound e)
     (λ h. rw h (execute_alike b e (decide e b)))
@@ -128,7 +128,7 @@ module _ (s : Named) (p : Panel) (z : startable s.parameters ≡ true)
   begins = lent s.parameters.outputs s.parameters.stations p
 
   starts : (start_step s.parameters s.tenants begins).answer ≡ Done
-  unfolding start_step counts_sound if◌then◌else◌
+  unfolding start_step counts_sound when◌then◌else◌
   starts =
       rw (
         z,
@@ -178,14 +178,14 @@ took_on {p = p} {w = w} {x = x} t k =
 -- THE STRINGS' LINES
 listed : {w : Reader} {l : List Bytes} {t : Bytes} (p : Panel) → Lines l t → Start true w → Holds p → in_use (closed (through p w t)) ≡ after (in_use p) l
 unfolding after
-listed {w} p none s h = ap in_use (unfold closed through if◌then◌else◌ in (taken_blank p w s.blank))
-listed p (string {b} {x} {t} {l} g m) s h =
+listed {w} p none s h = ap in_use (unfold closed through when◌then◌else◌ in (taken_blank p w s.blank))
+listed {w = w} p (string {b} {x} {t} {l} g m) s h =
     let k = gives_took p s g in
     let c = sent_becomes b p h in
-    rw (took_on t k) (listed (sent_on b p).panel m k.next c.holds ∙ ap (λ (u : Panel). after u l) c.used)
-listed p (remark {x} {t} g m) s h =
+    rw (took_on t k) (listed {w = (taken p (fed w x)).reader} (sent_on b p).panel m k.next c.holds ∙ ap (λ (u : Panel). after u l) c.used)
+listed {w = w} p (remark {x} {t} g m) s h =
     let k = silent_took p s g in
-    rw (took_on t k) (listed p m k.next h)
+    rw (took_on t k) (listed {w = (taken p (fed w x)).reader} p m k.next h)
 
 -- THE WHOLE TEXT names a set that may be started, and its strings are strings of bytes
 lines_strings : {l : List Bytes} {t : Bytes} → Lines l t → Strings l
@@ -202,7 +202,7 @@ listing_in_range (named g m) = record { starts = heading_startable g; strings = 
 listing_in_range (preface g m) = listing_in_range m
 listing_in_range (unended m) = listing_in_range m
 
-listed_whole : {s : Named} {w : Reader} {l : List Bytes} {t : Bytes} (p : Panel) → Listing s l t → Start false w →
+listed_whole : {s : Named} {l : List Bytes} {w : Reader} {t : Bytes} (p : Panel) → Listing s l t → Start false w →
     s.parameters.outputs ≤ length p.outputs → s.parameters.stations ≤ length p.stations →
     in_use (closed (through p w t)) ≡ after
     (start_step s.parameters s.tenants (lent s.parameters.outputs s.parameters.stations p)).panel l
@@ -210,9 +210,9 @@ listed_whole {s} {l = l} p (named {x} {t} g m) r h i =
     let k = heading_took p r g in
     let c = begun_becomes s p (heading_startable g) h i in
     rw (took_on t k) (listed (started_with s p) m k.next c.holds ∙ ap (λ (u : Panel). after u l) c.used)
-listed_whole p (preface {x} {t} g m) r h i =
+listed_whole {w = w} p (preface {x} {t} g m) r h i =
     let k = silent_took p r g in
-    rw (took_on t k) (listed_whole p m k.next h i)
+    rw (took_on t k) (listed_whole {w = (taken p (fed w x)).reader} p m k.next h i)
 listed_whole {w = w} p (unended {t} m) r h i = rw (← closed_newline p w t) (listed_whole p m r h i)
 
 pub found_by_text : (s : Named) (p : Panel) (l : List Bytes) (t : Bytes) → Listing s l t →

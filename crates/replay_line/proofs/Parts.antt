@@ -3,7 +3,7 @@ use mathlib.Core.Path.{◌≡◌, refl, sym, ◌∙◌}
 use mathlib.Core.Bool.{Bool, true, false, false≢true}
 use mathlib.Core.List.{[], ◌∷◌, ◌++◌}
 use lib.Dec.{eqb}
-use Rattle.lighting_levels.specs.Paper.Choice.{if◌then◌else◌}
+use Rattle.lighting_levels.specs.Paper.Choice.{when◌then◌else◌}
 use Rattle.lighting_frames.specs.Paper.Frames.{Bytes}
 use Rattle.lighting_panel.specs.Paper.Panel.{Panel}
 use Rattle.lighting_levels.proofs.Split.{by_bool}
@@ -15,7 +15,7 @@ use Rattle.text_reading.specs.Reading.{feed, line_of, next_line, with_named, fre
 use Rattle.replay_line.specs.Taking.{taken_by, taken, through, Went, closed, finished, Replayed}
 
 through_append : (p : Panel) (w : Reader) (x y : Bytes) → (through p w x).good ≡ true → through p w (x ++ y) ≡ through (through p w x).panel (through p w x).reader y
-unfolding through if◌then◌else◌
+unfolding through when◌then◌else◌
 through_append p w [] y h = refl
 through_append p w (c ∷ x) y h =
     by_bool (eqb c 10)
@@ -44,14 +44,14 @@ pub replayed : {p q u : Panel} {v : Reader} → Went p fresh_reader q v true →
 replayed {p} {q} {u} {v} f e =
     let x = f.came in
     let last : finished p x ≡ (taken (through p fresh_reader x).panel (through p fresh_reader x).reader).panel =
-    unfold finished closed if◌then◌else◌ in (rw (sym f.good))
+    unfold finished closed when◌then◌else◌ in (rw (sym f.good))
     in
     record { came = x; panel = rw (last, ← f.panel, ← f.reader) e }
 
 pub replayed_bad : {p q : Panel} {v : Reader} → Went p fresh_reader q v false → Replayed p q
 replayed_bad {p} {q} f =
     let x = f.came in
-    let broken : finished p x ≡ (through p fresh_reader x).panel = unfold finished closed if◌then◌else◌ in (rw (sym f.good)) in
+    let broken : finished p x ≡ (through p fresh_reader x).panel = unfold finished closed when◌then◌else◌ in (rw (sym f.good)) in
     record { came = x; panel = f.panel ∙ sym broken }
 
 -- A NEWLINE AT THE END changes nothing: the line that it opens is empty
@@ -67,7 +67,7 @@ at_start p w Frame = refl
 at_start p w (Wrong f) = refl
 
 pub closed_newline : (p : Panel) (w : Reader) (x : Bytes) → closed (through p w (x ++ (10 ∷ []))) ≡ closed (through p w x)
-unfolding through closed if◌then◌else◌
+unfolding through closed when◌then◌else◌
 closed_newline p w [] =
     by_bool (taken p w).good
     (λ g. rw g (taken_blank (taken p w).panel (taken p w).reader (unfold taken in (at_start p w (line_of w.held)))))

@@ -2,7 +2,7 @@
 -- for 64 outputs and 32 stations; the panel is the first so many of them, and the rest stand by. Definitions
 -- only.
 use Rattle.std.specs.Prelude.{Bool, true, false, eqb, [], ◌∷◌, ◌≡◌}
-use Rattle.lighting_levels.specs.Paper.Choice.{if◌then◌else◌}
+use Rattle.lighting_levels.specs.Paper.Choice.{when◌then◌else◌}
 use Rattle.lighting_frames.specs.Paper.Frames.{Bytes}
 use Rattle.lighting_panel.specs.Paper.Panel.{Panel, Step}
 use Rattle.lent_parts.specs.Lending.{lent, begun, sent}
@@ -60,9 +60,9 @@ pub record Through : Type 0 where
 unfoldable pub through : Panel → Reader → Bytes → Through
 through p w [] = record { panel = p; reader = w; good = true }
 through p w (c ∷ x) =
-    if eqb c 10
+    when eqb c 10
     then (
-    if (taken p w).good
+    when (taken p w).good
     then through (taken p w).panel (taken p w).reader x
     else record { panel = (taken p w).panel; reader = (taken p w).reader; good = false }
     )
@@ -79,7 +79,7 @@ pub record Went (p : Panel) (w : Reader) (q : Panel) (v : Reader) (g : Bool) : T
 -- ALL OF A LIST'S TEXT: the last line may lack its newline, and is taken at the end, unless a bad line ended
 -- the list
 unfoldable pub closed : Through → Panel
-closed z = if z.good then (taken z.panel z.reader).panel else z.panel
+closed z = when z.good then (taken z.panel z.reader).panel else z.panel
 
 unfoldable pub finished : Panel → Bytes → Panel
 finished p x = closed (through p fresh_reader x)

@@ -11,7 +11,7 @@ use lib.Dec.{eqb}
 use lib.ListN.{length, get_or, set, take, drop, replicate, length-take, drop_of_length-le}
 use lib.Seq.{take_all, drop-cons, get_or-take}
 use Rattle.lighting_frames.specs.Paper.Kinds.{longest_frame, kind_length}
-use Rattle.lighting_levels.specs.Paper.Choice.{if◌then◌else◌, ◌also◌}
+use Rattle.lighting_levels.specs.Paper.Choice.{when◌then◌else◌, ◌also◌}
 use Rattle.lighting_levels.specs.Paper.Field.{byte_at}
 use Rattle.lighting_frames.specs.Paper.Copies.{same_bytes}
 use Rattle.lighting_panel.specs.Engine.Judging.{padded, restored}
@@ -36,7 +36,7 @@ padded_all i b f e h = e ∙ ap padded (take_all i b h)
 
 -- TWO STRINGS COMPARED: of other lengths they are not the same
 pub other_length : (b g : List ℕ) → length b ≢ length g → same_bytes b g ≡ false
-unfolding same_bytes if◌then◌else◌
+unfolding same_bytes when◌then◌else◌
 other_length [] [] n = absurd (n refl)
 other_length [] (y ∷ g) n = refl
 other_length (x ∷ b) [] n = refl
@@ -52,12 +52,12 @@ module _ (b g : List ℕ) where
 
   pub same_more : (i : ℕ) → same_bytes b g ≡ same_bytes (drop i b) (drop i g) → i < length b → i < length g → get_or b i 0 ≡ get_or g i 0
       → same_bytes b g ≡ same_bytes (drop (i + 1) b) (drop (i + 1) g)
-  unfolding if◌then◌else◌
+  unfolding when◌then◌else◌
   same_more i s h l e = s ∙ opened i true h l (eqb_hit e)
 
   pub same_stop : (i : ℕ) → same_bytes b g ≡ same_bytes (drop i b) (drop i g) → i < length b → i < length g → get_or b i 0 ≢ get_or g i 0
       → false ≡ same_bytes b g
-  unfolding if◌then◌else◌
+  unfolding when◌then◌else◌
   same_stop i s h l e = sym (s ∙ opened i false h l (eqb_miss e))
 
   pub same_end : (i : ℕ) → same_bytes b g ≡ same_bytes (drop i b) (drop i g) → length b ≤ i → length g ≤ i → true ≡ same_bytes b g

@@ -7,7 +7,7 @@ use native.Mathlib.Nat.{mul-add-div_right, div-eq_of_lt, one-le-pow}
 use native.Mathlib.Omega.{arith}
 use lib.ListN.{length}
 use borrow.Author.Tests.{lt-ltb, le-ltb}
-use Rattle.lighting_levels.specs.Paper.Choice.{if◌then◌else◌}
+use Rattle.lighting_levels.specs.Paper.Choice.{when◌then◌else◌}
 use Rattle.lighting_levels.specs.Paper.Field.{byte_at, big_endian}
 use Rattle.lighting_outputs.specs.Paper.Rows.{within}
 use Rattle.lighting_frames.specs.Paper.Tags.{context_tag, field_in}
@@ -35,13 +35,13 @@ module _ (number least most : ℕ) (left : List ℕ) {low high tag : ℕ} {flag 
     counted = rw (t, z) at c
 
     pub found : {value : ℕ} → count < length left → value ≡ big_endian count left 1 → Holds count value ≡ field_in number (record { least = least; most = most }) left
-    unfolding field_in if◌then◌else◌
+    unfolding field_in when◌then◌else◌
     found s v = rw (tagged true f, ← counted, lt-ltb _ _ s, v)
 
     pub cut_short : length left ≤ count → Missing ≡ field_in number (record { least = least; most = most }) left
-    unfolding field_in if◌then◌else◌
+    unfolding field_in when◌then◌else◌
     cut_short s = rw (tagged true f, ← counted, le-ltb _ _ s)
 
   pub elsewhere : flag ≡ false → Missing ≡ field_in number (record { least = least; most = most }) left
-  unfolding field_in if◌then◌else◌
+  unfolding field_in when◌then◌else◌
   elsewhere f = rw (tagged false f)

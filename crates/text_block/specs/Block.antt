@@ -1,7 +1,7 @@
 -- What is found of an output after a list, as text: demand 3's values.
 use Rattle.std.specs.Prelude.{List, [], ◌∷◌, ◌++◌, ℕ, zero, suc, ◌+◌}
 use Rattle.std.proofs.Math.Option.{Option, none, some}
-use Rattle.lighting_levels.specs.Paper.Choice.{if◌then◌else◌}
+use Rattle.lighting_levels.specs.Paper.Choice.{when◌then◌else◌}
 use Rattle.lighting_frames.specs.Paper.Frames.{Bytes}
 use Rattle.lighting_outputs.specs.Paper.Slots.{is_live, level_at}
 use Rattle.lighting_outputs.specs.Paper.Value.{present_value, progress_value, in_process}
@@ -28,7 +28,7 @@ unfoldable pub slot_level : Slots → ℕ → Bytes
 slot_level s i = level_field (level_at 0 s i)
 
 unfoldable pub slot_field : Slots → ℕ → Bytes
-slot_field s i = if is_live s i then slot_level s i else missing
+slot_field s i = when is_live s i then slot_level s i else missing
 
 -- the first n slots
 unfoldable pub slot_fields : Slots → ℕ → Bytes

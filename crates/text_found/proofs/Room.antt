@@ -7,7 +7,7 @@ use native.Mathlib.Omega.{arith}
 use lib.Dec.{ltb}
 use lib.ListN.{length, take, length-append}
 use lib.Seq.{length-sets}
-use Rattle.lighting_levels.specs.Paper.Choice.{if◌then◌else◌}
+use Rattle.lighting_levels.specs.Paper.Choice.{when◌then◌else◌}
 use Rattle.lighting_frames.specs.Paper.Frames.{Bytes}
 use Rattle.lighting_outputs.specs.Paper.Slots.{is_live, level_at}
 use Rattle.lighting_outputs.specs.Paper.Value.{present_value, progress_value, in_process, lit}
@@ -41,7 +41,7 @@ unfolding number_line
 number_line_lem word n = simp length-append (omega (arith, decimal_length n))
 
 slot_field_lem : (s : Slots) (i : ℕ) → length (slot_field s i) ≤ 21
-unfolding slot_field slot_level level_field if◌then◌else◌
+unfolding slot_field slot_level level_field when◌then◌else◌
 slot_field_lem s i = by_bool (is_live s i) (λ e. rw e (omega (arith, decimal_length (level_at 0 s i)))) (λ e. rw e (omega arith))
 
 slot_fields_lem : (s : Slots) (n : ℕ) → length (slot_fields s n) ≤ n * 21
@@ -82,7 +82,7 @@ block_length i t o =
 
 -- A LINE OF THE REPORT: 243 bytes at most, and its head 121
 lead_length : (n : ℕ) → length (lead n) ≤ 2
-unfolding lead if◌then◌else◌
+unfolding lead when◌then◌else◌
 lead_length n =
     by_bool (ltb n 10)
     (λ e. rw e (omega arith))
@@ -110,7 +110,7 @@ lasting_length n = simp (length-append, minutes_length) (omega (arith, aligned_l
 
 -- of two words of the same length
 either_length : (n : ℕ) (this that : Bytes) (b : Bool) → length this ≡ n → length that ≡ n → length (either this that b) ≡ n
-unfolding either if◌then◌else◌
+unfolding either when◌then◌else◌
 either_length n this that true e f = e
 either_length n this that false e f = f
 
@@ -165,18 +165,18 @@ head_length t = simp length-append (omega (arith, moment_length t))
 
 -- WHAT FITS 1,024 BYTES: an output, and an answer's line with the head that follows the last of them
 pub output_fits : (report : Bool) (i t : ℕ) (o : Output) → length (found_output report i t o) ≤ 1024
-unfolding found_output if◌then◌else◌
+unfolding found_output when◌then◌else◌
 output_fits true i t o = omega (arith, report_length i t o)
 output_fits false i t o = omega (arith, block_length i t o)
 
 pub head_fits : (a : Answer) (report : Bool) (t : ℕ) → length (answer_line a ++ found_head report t) ≤ 1024
-unfolding found_head if◌then◌else◌
+unfolding found_head when◌then◌else◌
 head_fits a true t = simp length-append (omega (arith, answer_length a, head_length t))
 head_fits a false t = simp length-append (omega (arith, answer_length a))
 
 -- a page of more than 1,024 bytes has more than 1,024 free past the mark
 marked_free : (size at : ℕ) → 1024 < size → marked size at + 1024 < size
-unfolding marked roomy if◌then◌else◌
+unfolding marked roomy when◌then◌else◌
 marked_free size at h =
     by_lt at size
     (λ l e. rw e (by_lt 1024 (size - at) (λ m f. rw f (omega arith)) (λ m f. rw f (omega arith))))

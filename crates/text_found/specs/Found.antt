@@ -2,7 +2,7 @@
 -- of the report. Definitions only.
 use Rattle.std.specs.Prelude.{Bool, List, [], ◌∷◌, ◌++◌, ℕ, suc, ◌+◌, ◌-◌, min, max, ltb, length}
 use Rattle.std.proofs.lemmas.List.Edits.{sets}
-use Rattle.lighting_levels.specs.Paper.Choice.{if◌then◌else◌, ◌also◌}
+use Rattle.lighting_levels.specs.Paper.Choice.{when◌then◌else◌, ◌also◌}
 use Rattle.lighting_frames.specs.Paper.Frames.{Bytes}
 use Rattle.lighting_outputs.specs.declared.Output.{Output}
 use Rattle.text_block.specs.Block.{block}
@@ -10,10 +10,10 @@ use Rattle.text_report.specs.Report.{report_line, report_head}
 use Rattle.text_printing.specs.Text.{text}
 
 unfoldable pub found_head : Bool → ℕ → Bytes
-found_head report t = text "--\n" ++ (if report then report_head t else [])
+found_head report t = text "--\n" ++ (when report then report_head t else [])
 
 unfoldable pub found_output : Bool → ℕ → ℕ → Output → Bytes
-found_output report i t o = if report then report_line i t o else block i t o
+found_output report i t o = when report then report_line i t o else block i t o
 
 -- A PAGE with more than 1,024 free bytes is written on from its mark, and any other from its start, once it
 -- was written out
@@ -21,7 +21,7 @@ unfoldable pub roomy : ℕ → ℕ → Bool
 roomy size at = ltb at size also ltb 1024 (size - at)
 
 unfoldable pub marked : ℕ → ℕ → ℕ
-marked size at = if roomy size at then at else 0
+marked size at = when roomy size at then at else 0
 
 -- A SHEET: a page's bytes, and the mark up to which they are written
 pub record Sheet : Type 0 where

@@ -5,7 +5,7 @@ use mathlib.Core.Bool.{true, false≢true}
 use mathlib.Core.List.{[], ◌∷◌, ◌++◌}
 use Prim.Native.Nat.{ℕ, suc, ◌+◌, ◌<◌}
 use native.Mathlib.Omega.{arith}
-use Rattle.lighting_levels.specs.Paper.Choice.{if◌then◌else◌}
+use Rattle.lighting_levels.specs.Paper.Choice.{when◌then◌else◌}
 use Rattle.lighting_frames.specs.Paper.Frames.{Bytes}
 use Rattle.lighting_levels.proofs.Split.{by_eq, eq_of, leb_yes, leb_no}
 use Rattle.text_characters.specs.Characters.{is_blank, hex_value}
@@ -14,14 +14,14 @@ use Rattle.text_heading.specs.Spelling.{Unbroken, nothing, char, Blanks, no_blan
 
 -- CHARACTERS. A blank is worth no digit, and is no newline
 pub blank_worth : (c : ℕ) → is_blank c ≡ true → hex_value c ≡ 16
-unfolding is_blank hex_value if◌then◌else◌
+unfolding is_blank hex_value when◌then◌else◌
 blank_worth c e =
     by_eq c 32
     (λ p z. rw p)
     (λ p z. by_eq c 9 (λ q y. rw q) (λ q y. let r = rw (z, y) at e in rw (eq_of {a = c} {b = 13} r)))
 
 pub blank_no_newline : (c : ℕ) → is_blank c ≡ true → c ≢ 10
-unfolding is_blank if◌then◌else◌
+unfolding is_blank when◌then◌else◌
 blank_no_newline c h e = false≢true (rw e at h)
 
 pub no_newline : (c : ℕ) → 10 < c → c ≢ 10
@@ -29,7 +29,7 @@ no_newline c h e = omega (arith, e)
 
 -- a digit is worth its number
 pub worth : {d c : ℕ} → Digit d c → hex_value c ≡ d
-unfolding hex_value if◌then◌else◌
+unfolding hex_value when◌then◌else◌
 worth (figure {d} h) =
     rw (
       leb_no {a = suc (48 + d)} {b = 48} (omega arith),

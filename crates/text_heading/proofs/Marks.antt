@@ -5,7 +5,7 @@ use Prim.Native.Nat.{ℕ, ◌+◌, ◌*◌, ◌^◌, ◌≤◌, ◌<◌}
 use native.Mathlib.Nat.{pow-succ', pow-le-pow_right}
 use native.Mathlib.Numerals.{add-one}
 use native.Mathlib.Omega.{arith}
-use Rattle.lighting_levels.specs.Paper.Choice.{if◌then◌else◌}
+use Rattle.lighting_levels.specs.Paper.Choice.{when◌then◌else◌}
 use Rattle.lighting_frames.specs.Paper.Frames.{Bytes}
 use Rattle.lighting_levels.proofs.Split.{le_of}
 use Rattle.text_heading.specs.Words.{base, may_follow, marks_with, with_number}
@@ -17,7 +17,7 @@ use Rattle.text_heading.specs.declared.Came.{Came}
 use Rattle.text_heading.proofs.Leads.{small}
 
 follows : (k : ℕ) → may_follow Tenants k ≡ true → k < 8
-unfolding may_follow base if◌then◌else◌
+unfolding may_follow base when◌then◌else◌
 follows k h = le_of h
 
 -- k digits make a number below the k-th power of 16

@@ -7,7 +7,7 @@ use Prim.Native.Nat.{ℕ, suc, ◌+◌, ◌*◌, ◌<◌, min}
 use native.Mathlib.Omega.{arith}
 use lib.Dec.{ltb, eqb}
 use lib.ListN.{length}
-use Rattle.lighting_levels.specs.Paper.Choice.{if◌then◌else◌, every}
+use Rattle.lighting_levels.specs.Paper.Choice.{when◌then◌else◌, every}
 use Rattle.lighting_frames.specs.Paper.Frames.{Bytes}
 use Rattle.lighting_levels.proofs.Split.{by_bool, leb_yes, le_of, also_both}
 use Rattle.text_characters.specs.Characters.{is_blank}
@@ -38,7 +38,7 @@ unbroken_past [] h = nothing
 unbroken_past (c ∷ x) h = char (no_newline c (le_of (also_both h).0)) (unbroken_past x (also_both h).1)
 
 unbroken_letters : (w : Word) → Unbroken (letters w)
-unfolding letters every past_newline if◌then◌else◌
+unfolding letters every past_newline when◌then◌else◌
 unbroken_letters Outputs = unbroken_past _ refl
 unbroken_letters Stations = unbroken_past _ refl
 unbroken_letters Fade = unbroken_past _ refl
@@ -47,7 +47,7 @@ unbroken_letters Tenants = unbroken_past _ refl
 
 -- a blank is no digit of any word's number
 blank_untaken : (w : Word) (k : ℕ) → takes_digit w k 16 ≡ false
-unfolding takes_digit base if◌then◌else◌
+unfolding takes_digit base when◌then◌else◌
 blank_untaken Outputs k = refl
 blank_untaken Stations k = refl
 blank_untaken Fade k = refl
@@ -68,14 +68,14 @@ module _ (p : Named) (m : Came) where
       (line p m (Letters Outputs (length (letters Outputs))))
   first_word =
       record {
-        comes = unfold run read heading_step step_at lettered with_place letters is_blank if◌then◌else◌ in refl;
+        comes = unfold run read heading_step step_at lettered with_place letters is_blank when◌then◌else◌ in refl;
         whole = unbroken_letters Outputs;
       }
 
   spelt_on :
       (w : Word) → has_come w m ≡ false →
       run read (line p m Trail) (letters w) ≡ line p (with_come w m) (Letters w (length (letters w)))
-  unfolding run read heading_step step_at trailed word_begun marked lettered with_place letters has_come is_blank if◌then◌else◌
+  unfolding run read heading_step step_at trailed word_begun marked lettered with_place letters has_come is_blank when◌then◌else◌
   spelt_on Outputs h = absurd (false≢true (sym h))
   spelt_on Stations h = subst (λ (b : Bool). Spelt p (came b m.fade m.duration m.tenants) Stations) (sym h) refl
   spelt_on Fade h = subst (λ (b : Bool). Spelt p (came m.stations b m.duration m.tenants) Fade) (sym h) refl
@@ -91,7 +91,7 @@ module _ (p : Named) (m : Came) where
   first_gap :
       (w : Word) (c : ℕ) → is_blank c ≡ true →
       read (line p m (Letters w (length (letters w)))) c ≡ line p m (Gap w)
-  unfolding read heading_step step_at lettered with_place letters if◌then◌else◌
+  unfolding read heading_step step_at lettered with_place letters when◌then◌else◌
   first_gap Outputs c e = rw e
   first_gap Stations c e = rw e
   first_gap Fade c e = rw e
@@ -99,7 +99,7 @@ module _ (p : Named) (m : Came) where
   first_gap Tenants c e = rw e
 
   further_gap : (w : Word) (c : ℕ) → is_blank c ≡ true → read (line p m (Gap w)) c ≡ line p m (Gap w)
-  unfolding read heading_step step_at gapped if◌then◌else◌
+  unfolding read heading_step step_at gapped when◌then◌else◌
   further_gap w c e = rw (blank_worth c e, blank_untaken w 0, e)
 
   gap :
@@ -109,11 +109,11 @@ module _ (p : Named) (m : Came) where
 
   -- and after a number
   first_trail : (w : Word) (k c : ℕ) → is_blank c ≡ true → read (line p m (Number w k)) c ≡ line p m Trail
-  unfolding read heading_step step_at numbered with_place if◌then◌else◌
+  unfolding read heading_step step_at numbered with_place when◌then◌else◌
   first_trail w k c e = rw (blank_worth c e, blank_untaken w k, e)
 
   further_trail : (c : ℕ) → is_blank c ≡ true → read (line p m Trail) c ≡ line p m Trail
-  unfolding read heading_step step_at trailed if◌then◌else◌
+  unfolding read heading_step step_at trailed when◌then◌else◌
   further_trail c e = rw e
 
   trail :
@@ -167,7 +167,7 @@ counts k [] = count k
 counts k (c ∷ x) = counts (k + 1) x
 
 follows_count : (w : Word) (k : ℕ) → may_follow w k ≡ true → may_follow w (count k) ≡ true
-unfolding may_follow if◌then◌else◌
+unfolding may_follow when◌then◌else◌
 follows_count w k h =
     by_bool (eqb (base w) 10)
     (λ e. rw e)
@@ -179,14 +179,14 @@ module _ (p : Named) (m : Came) (w : Word) where
   first_digit :
       {d c : ℕ} → may_follow w 0 ≡ true → Digit d c → d < base w →
       read (line p m (Gap w)) c ≡ line (with_number w (cap (base w * 0 + d)) p) m (Number w 1)
-  unfolding read heading_step step_at gapped takes_digit counted if◌then◌else◌
+  unfolding read heading_step step_at gapped takes_digit counted when◌then◌else◌
   first_digit {d} f g l = rw (worth g, leb_yes {a = suc d} {b = base w} l, f)
 
   further_digit :
       (k n : ℕ) {d c : ℕ} → may_follow w k ≡ true → Digit d c → d < base w →
       read (line (with_number w (cap n) p) m (Number w (count k))) c
       ≡ line (with_number w (cap (base w * n + d)) p) m (Number w (count (k + 1)))
-  unfolding read heading_step step_at numbered takes_digit counted_on counted if◌then◌else◌
+  unfolding read heading_step step_at numbered takes_digit counted_on counted when◌then◌else◌
   further_digit k n {d} f g l =
       let e : count (count k + 1) ≡ count (k + 1) = omega arith in
       rw (

@@ -4,7 +4,7 @@ use mathlib.Core.Path.{◌≡◌, refl, sym, ap, ◌∙◌}
 use mathlib.Core.Bool.{true, false, false≢true}
 use Prim.Native.Nat.{ℕ, ◌≤◌, ◌<◌, min}
 use native.Mathlib.Omega.{arith}
-use Rattle.lighting_levels.specs.Paper.Choice.{if◌then◌else◌, ◌also◌}
+use Rattle.lighting_levels.specs.Paper.Choice.{when◌then◌else◌, ◌also◌}
 use Rattle.lighting_outputs.specs.Paper.Rows.{within}
 use Rattle.lighting_outputs.specs.Paper.Startable.{most_stations, most_outputs, least_time, most_fade, most_duration, startable}
 use Rattle.lighting_outputs.proofs.Rules.Startable.{startable_of}
@@ -32,7 +32,7 @@ pub data Judged (q : Named) : Type 0 where
       Judged q
 
 pub judging : (q : Named) → Judged q
-unfolding judged fitting if◌then◌else◌
+unfolding judged fitting when◌then◌else◌
 judging q =
     by_bool (fits Stations q)
     (λ a.
@@ -82,7 +82,7 @@ capped_same q h t =
 within_capped :
     (low high n : ℕ) → low ≤ 4294967295 → high < 4294967295 →
     within low high (min 4294967295 n) ≡ within low high n
-unfolding within if◌then◌else◌
+unfolding within when◌then◌else◌
 within_capped low high n l h =
     by_le n 4294967295
     (λ k e. let same : min 4294967295 n ≡ n = omega arith in rw same)
@@ -106,7 +106,7 @@ fits_capped Duration q t =
 fits_capped Tenants q t = let e : min 4294967295 q.tenants ≡ q.tenants = omega arith in rw e
 
 pub judged_capped : (q : Named) → q.tenants < 4294967296 → judged (capped q) ≡ judged q
-unfolding judged fitting if◌then◌else◌
+unfolding judged fitting when◌then◌else◌
 judged_capped q t =
     rw (fits_capped Stations q t, fits_capped Outputs q t, fits_capped Fade q t, fits_capped Duration q t)
     (by_bool (fits Stations q)

@@ -1,6 +1,6 @@
 -- The first line of a list, read one character at a time.
 use Rattle.std.specs.Prelude.{Bool, false, [], ◌∷◌, ℕ, ◌+◌, ◌*◌, min, ltb, eqb}
-use Rattle.lighting_levels.specs.Paper.Choice.{if◌then◌else◌, ◌also◌}
+use Rattle.lighting_levels.specs.Paper.Choice.{when◌then◌else◌, ◌also◌}
 use Rattle.lighting_outputs.specs.Paper.Startable.{most_fade, most_duration}
 use Rattle.lighting_frames.specs.Paper.Frames.{Bytes}
 use Rattle.text_characters.specs.Characters.{is_blank, hex_value}
@@ -60,8 +60,8 @@ unnumbered h w = with_place h (Spoilt (no_number w))
 -- after k letters of a word: the next one, and a blank after the last
 unfoldable pub lettered : Heading → Word → ℕ → ℕ → Heading
 lettered h w k c =
-    if eqb (letter w k) 0 then (if is_blank c then with_place h (Gap w) else misspelt h w)
-    else if eqb c (letter w k) then with_place h (Letters w (k + 1))
+    when eqb (letter w k) 0 then (when is_blank c then with_place h (Gap w) else misspelt h w)
+    else when eqb c (letter w k) then with_place h (Letters w (k + 1))
     else misspelt h w
 
 -- after k digits, which made the number n: whether v is one more, and the line after it. 4,294,967,295 stands
@@ -80,11 +80,11 @@ unfoldable pub counted_on : Heading → Word → ℕ → ℕ → Heading
 counted_on h w k v = counted h w k (number_in w h.named) v
 
 unfoldable pub gapped : Heading → Word → ℕ → ℕ → Heading
-gapped h w v c = if takes_digit w 0 v then counted h w 0 0 v else if is_blank c then h else unnumbered h w
+gapped h w v c = when takes_digit w 0 v then counted h w 0 0 v else when is_blank c then h else unnumbered h w
 
 unfoldable pub numbered : Heading → Word → ℕ → ℕ → ℕ → Heading
 numbered h w k v c =
-    if takes_digit w k v then counted_on h w k v else if is_blank c then with_place h Trail else unnumbered h w
+    when takes_digit w k v then counted_on h w k v else when is_blank c then with_place h Trail else unnumbered h w
 
 -- a further word: `stations`, `fade`, `duration` or `tenants`, told by its first letter, and not for the
 -- second time
@@ -92,15 +92,15 @@ unfoldable pub marked : Heading → Word → Heading
 marked h w = record { named = h.named; came = with_come w h.came; place = Letters w 1 }
 
 unfoldable pub word_begun : Heading → Word → Heading
-word_begun h w = if has_come w h.came then with_place h (Spoilt BadWord) else marked h w
+word_begun h w = when has_come w h.came then with_place h (Spoilt BadWord) else marked h w
 
 unfoldable pub trailed : Heading → ℕ → Heading
 trailed h c =
-    if is_blank c then h
-    else if eqb c 115 then word_begun h Stations
-    else if eqb c 102 then word_begun h Fade
-    else if eqb c 100 then word_begun h Duration
-    else if eqb c 116 then word_begun h Tenants
+    when is_blank c then h
+    else when eqb c 115 then word_begun h Stations
+    else when eqb c 102 then word_begun h Fade
+    else when eqb c 100 then word_begun h Duration
+    else when eqb c 116 then word_begun h Tenants
     else with_place h (Spoilt BadWord)
 
 unfoldable pub step_at : Heading → Place → ℕ → ℕ → Heading
@@ -124,7 +124,7 @@ run step a (c ∷ x) = run step (step a c) x
 -- THE LINE'S END: the first number of the set out of range, in this order, or what is named. No marks are out
 -- of range (§8)
 unfoldable pub fitting : Word → Named → Ending → Ending
-fitting w q e = if fits w q then e else Fails (Outside w)
+fitting w q e = when fits w q then e else Fails (Outside w)
 
 unfoldable pub judged : Named → Ending
 judged q = fitting Stations q (fitting Outputs q (fitting Fade q (fitting Duration q (Starts q))))

@@ -1,6 +1,6 @@
 -- The words of a list's first line: their letters, and each one's number in what is named.
 use Rattle.std.specs.Prelude.{Bool, true, ℕ, ltb, eqb, get_or}
-use Rattle.lighting_levels.specs.Paper.Choice.{if◌then◌else◌}
+use Rattle.lighting_levels.specs.Paper.Choice.{when◌then◌else◌}
 use Rattle.lighting_outputs.specs.declared.Parameters.{Parameters}
 use Rattle.lighting_outputs.specs.Paper.Rows.{within}
 use Rattle.lighting_outputs.specs.Paper.Startable.{most_stations, most_outputs, least_time, most_fade, most_duration}
@@ -34,7 +34,7 @@ base Tenants = 16
 
 -- whether after k digits one more may come
 unfoldable pub may_follow : Word → ℕ → Bool
-may_follow w k = if eqb (base w) 10 then true else ltb k 8
+may_follow w k = when eqb (base w) 10 then true else ltb k 8
 
 -- A WORD'S NUMBER in what is named: in the set of parameters (§6), or the marks
 unfoldable pub number_in : Word → Named → ℕ

@@ -5,7 +5,7 @@ use Prim.Native.Nat.{ℕ, zero, suc, ◌+◌, ◌-◌, ◌/◌, ◌%◌, ◌≤�
 use native.Mathlib.Omega.{arith}
 use lib.ListN.{length, drop, set, length-set}
 use lib.Seq.{drop-cons, get_or-set_same, drop-set-lt}
-use Rattle.lighting_levels.specs.Paper.Choice.{if◌then◌else◌}
+use Rattle.lighting_levels.specs.Paper.Choice.{when◌then◌else◌}
 use Rattle.lighting_frames.specs.Paper.Frames.{Bytes}
 use Rattle.lighting_levels.proofs.Split.{leb_yes, leb_no}
 use Rattle.text_printing.specs.Writing.{decimal_by, decimal}
@@ -19,7 +19,7 @@ stored i x b h =
 
 turned : (k n x : ℕ) (b : Bytes) → 10 ≤ n → suc k < length b → x ≡ 48 + n % 10
     → decimal_by k (n / 10) ++ drop (suc k) (set b (suc k) x) ≡ decimal_by (suc k) n ++ drop (suc (suc k)) b
-unfolding decimal_by if◌then◌else◌
+unfolding decimal_by when◌then◌else◌
 turned k n x b h l e =
     rw (leb_no {a = suc n} {b = 10} (omega arith), stored (suc k) x b l, e) (sym (append_assoc (decimal_by k (n / 10)) ((48 + n % 10) ∷ []) (drop (suc (suc k)) b)))
 
@@ -35,7 +35,7 @@ digit_turn (suc k) n x b d p h l e q =
 
 -- its ends: the number has one digit left, or there is no room for more
 pub digit_last : (i n x : ℕ) (b d : Bytes) → n < 10 → i < length b → x ≡ 48 + n % 10 → decimal_by i n ++ drop (i + 1) b ≡ d → drop i (set b i x) ≡ d
-unfolding decimal_by if◌then◌else◌
+unfolding decimal_by when◌then◌else◌
 digit_last zero n x b d h l e q = rw (stored zero x b l, e) q
 digit_last (suc k) n x b d h l e q =
     let two : suc k + 1 ≡ suc (suc k) = omega arith in

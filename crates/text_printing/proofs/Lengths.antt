@@ -5,7 +5,7 @@ use Prim.Native.Nat.{ℕ, zero, suc, ◌*◌, ◌/◌, ◌≤◌}
 use native.Mathlib.Omega.{arith}
 use lib.ListN.{length, length-append}
 use lib.Dec.{ltb}
-use Rattle.lighting_levels.specs.Paper.Choice.{if◌then◌else◌}
+use Rattle.lighting_levels.specs.Paper.Choice.{when◌then◌else◌}
 use Rattle.lighting_frames.specs.Paper.Frames.{Bytes}
 use Rattle.lighting_outputs.specs.declared.Answer.{Answer}
 use Rattle.lighting_outputs.specs.declared.Answer.TheVariants.{Done, Value, Absent, Refused}
@@ -13,7 +13,7 @@ use Rattle.lighting_levels.proofs.Split.{by_bool}
 use Rattle.text_printing.specs.Writing.{hex2, hex4, hex8, hex_bytes, decimal_by, decimal, answer_line}
 
 decimal_by_length : (k n : ℕ) → length (decimal_by k n) ≤ suc k
-unfolding decimal_by if◌then◌else◌
+unfolding decimal_by when◌then◌else◌
 decimal_by_length zero n = omega arith
 decimal_by_length (suc k) n =
     by_bool (ltb n 10)

@@ -1,6 +1,6 @@
 -- Numbers and answers as text.
 use Rattle.std.specs.Prelude.{[], ◌∷◌, ◌++◌, ℕ, zero, suc, ◌+◌, ◌/◌, ◌%◌, ltb}
-use Rattle.lighting_levels.specs.Paper.Choice.{if◌then◌else◌}
+use Rattle.lighting_levels.specs.Paper.Choice.{when◌then◌else◌}
 use Rattle.lighting_frames.specs.Paper.Frames.{Bytes}
 use Rattle.lighting_outputs.specs.declared.Answer.{Answer}
 use Rattle.lighting_outputs.specs.declared.Answer.TheVariants.{Done, Value, Absent, Refused}
@@ -8,7 +8,7 @@ use Rattle.text_printing.specs.Text.{text}
 
 -- HEXADECIMAL, in upper case: `0` to `9`, `A` to `F`
 unfoldable pub hex_digit : ℕ → ℕ
-hex_digit d = if ltb d 10 then 48 + d else 55 + d
+hex_digit d = when ltb d 10 then 48 + d else 55 + d
 
 -- two digits of 8 bits, four of 16, eight of 32; zeros in front are written
 unfoldable pub hex2 : ℕ → Bytes
@@ -28,7 +28,7 @@ hex_bytes (b ∷ l) = hex2 b ++ hex_bytes l
 -- DECIMAL, with no zero in front: k more digits may stand before the last. 64 bits take 20 digits at most
 unfoldable pub decimal_by : ℕ → ℕ → Bytes
 decimal_by zero n = (48 + n % 10) ∷ []
-decimal_by (suc k) n = if ltb n 10 then (48 + n % 10) ∷ [] else decimal_by k (n / 10) ++ ((48 + n % 10) ∷ [])
+decimal_by (suc k) n = when ltb n 10 then (48 + n % 10) ∷ [] else decimal_by k (n / 10) ++ ((48 + n % 10) ∷ [])
 
 unfoldable pub decimal : ℕ → Bytes
 decimal n = decimal_by 19 n

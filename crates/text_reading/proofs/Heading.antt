@@ -3,7 +3,7 @@ use mathlib.Core.Path.{◌≡◌, refl, ap, ◌∙◌}
 use mathlib.Core.Bool.{true, false}
 use mathlib.Core.List.{[], ◌∷◌, ◌++◌}
 use Prim.Native.Nat.{◌<◌}
-use Rattle.lighting_levels.specs.Paper.Choice.{if◌then◌else◌}
+use Rattle.lighting_levels.specs.Paper.Choice.{when◌then◌else◌}
 use Rattle.lighting_outputs.specs.Paper.Startable.{startable}
 use Rattle.lighting_frames.specs.Paper.Frames.{Bytes}
 use Rattle.text_characters.specs.Characters.{is_blank}
@@ -38,7 +38,7 @@ unfolding run
 named_from w o (opens x) = ap (λ (u : Reader). run feed u x) first ∙ naming w (read fresh_heading 111) x
   where
     first : feed (with_held w Blank) 111 ≡ with_held w (Naming (read fresh_heading 111))
-    first = unfold feed with_held step stored_by opened naming_held read is_blank if◌then◌else◌ in (rw o)
+    first = unfold feed with_held step stored_by opened naming_held read is_blank when◌then◌else◌ in (rw o)
 
 -- A LINE THAT NAMES A SET is judged by its numbers
 pub names_read :

@@ -6,7 +6,7 @@ use mathlib.Core.List.{[], ◌∷◌, ◌++◌}
 use Prim.Native.Nat.{ℕ}
 use native.Mathlib.Omega.{arith}
 use lib.ListN.{length, take}
-use Rattle.lighting_levels.specs.Paper.Choice.{if◌then◌else◌}
+use Rattle.lighting_levels.specs.Paper.Choice.{when◌then◌else◌}
 use Rattle.lighting_frames.specs.Paper.Frames.{Bytes, Octets}
 use Rattle.text_characters.specs.Characters.{is_blank, hex_value}
 use Rattle.text_heading.specs.Spelling.{Unbroken, nothing, char, Blanks}
@@ -89,7 +89,7 @@ pub silent_read : {n : Bool} {w : Reader} {x : Bytes} → Start n w → Silent x
 unfolding line_of
 silent_read t (blanks s) = leads_read Blank t (leads_steady _ at_start s)
 silent_read {n} {w} t (comment s u) =
-    let e : step w.named Blank (hex_value 35) 35 ≡ Comment = unfold step opened is_blank if◌then◌else◌ in refl in
+    let e : step w.named Blank (hex_value 35) 35 ≡ Comment = unfold step opened is_blank when◌then◌else◌ in refl in
     leads_read Comment t (leads_mark w Comment s e (λ z. omega (arith, z)) (leads_comment w u))
 
 -- A STRING'S LINE: x is a frame of the first bytes of b
@@ -111,7 +111,7 @@ gives_read {w} t (bytes {y} {b} {x} s) =
     }
 gives_read {w} t (dash {before} {after} s e) =
     let m : step w.named Blank (hex_value 45) 45 ≡ Dash =
-    unfold step opened is_blank if◌then◌else◌ in (rw t.named)
+    unfold step opened is_blank when◌then◌else◌ in (rw t.named)
     in
     let l : LeadsTo w Blank (before ++ (45 ∷ after)) Dash = leads_mark w Dash s m (λ z. omega (arith, z)) (leads_steady w at_dash e) in
     record { reads = leads_read Dash t l; holds = ap content (leads_from Dash t l) ∙ (unfold with_held content in (start_content t)) }

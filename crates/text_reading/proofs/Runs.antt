@@ -5,7 +5,7 @@ use mathlib.Core.Bool.{Bool, true, false≢true}
 use Prim.Native.Nat.{ℕ, suc, ◌+◌, ◌-◌, ◌*◌, ◌<◌}
 use native.Mathlib.Omega.{arith}
 use lib.ListN.{length, get_or, set}
-use Rattle.lighting_levels.specs.Paper.Choice.{if◌then◌else◌}
+use Rattle.lighting_levels.specs.Paper.Choice.{when◌then◌else◌}
 use Rattle.lighting_frames.specs.Paper.Frames.{Bytes}
 use Rattle.lighting_levels.proofs.Split.{by_lt, leb_yes}
 use Rattle.text_characters.specs.Characters.{is_blank, hex_value, byte_pair}
@@ -29,7 +29,7 @@ lower_at : (d c v : ℕ) → d < 6 → c ≡ 97 + d → v ≡ 10 + d → Digit v
 lower_at d c v h e f = rw (e, f) (lower h)
 
 digit_of : (c : ℕ) → hex_value c < 16 → Digit (hex_value c) c
-unfolding hex_value if◌then◌else◌
+unfolding hex_value when◌then◌else◌
 digit_of c h =
     by_lt c 48
     (λ l₁ e₁. let z = rw e₁ at h in absurd (omega (arith, z)))
@@ -87,7 +87,7 @@ module _ (w : Reader) (b : may_begin w.named w.held ≡ true) where
   two_fed c k p q m =
       ap (λ (u : Reader). feed u k) (first w (may_begin_lem _ _ b).0 (may_begin_lem _ _ b).1 (digit_of c p))
       ∙ second w p (digit_of k q)
-      ∙ (unfold with_held pushed if◌then◌else◌ in (rw (leb_yes {a = suc w.count} {b = bytes_kept} m, pair)))
+      ∙ (unfold with_held pushed when◌then◌else◌ in (rw (leb_yes {a = suc w.count} {b = bytes_kept} m, pair)))
     where
       pair : byte_pair (hex_value c) (hex_value k) ≡ hex_value c * 16 + hex_value k
       pair = unfold byte_pair in (omega (arith, p, q))

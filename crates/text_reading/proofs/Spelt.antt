@@ -9,7 +9,7 @@ use native.Mathlib.Omega.{arith}
 use native.Mathlib.Numerals.{add-one}
 use lib.ListN.{length, take, length-set, length-take, length-append}
 use lib.Seq.{take_all, take-append-le, take-suc-set}
-use Rattle.lighting_levels.specs.Paper.Choice.{if◌then◌else◌}
+use Rattle.lighting_levels.specs.Paper.Choice.{when◌then◌else◌}
 use Rattle.lighting_frames.specs.Paper.Frames.{Bytes, Octets}
 use Rattle.lighting_levels.proofs.Split.{by_lt, eqb_miss, leb_yes}
 use Rattle.text_characters.specs.Characters.{is_blank, byte_pair}
@@ -25,7 +25,7 @@ use Rattle.text_reading.specs.declared.Reader.{Reader}
 
 -- A DIGIT is no blank
 is_no_blank : (c : ℕ) → 47 < c → is_blank c ≡ false
-unfolding is_blank if◌then◌else◌
+unfolding is_blank when◌then◌else◌
 is_no_blank c h =
     rw (
       eqb_miss {a = c} {b = 32} (omega arith),
@@ -46,7 +46,7 @@ pub record Ready (w : Reader) : Type 0 where
 
 -- a first digit
 first_held : (n : Bool) {h : Held} {d c : ℕ} → n ≡ true → Between h → Digit d c → step n h d c ≡ Half d
-unfolding step opened byte_held digit_held if◌then◌else◌
+unfolding step opened byte_held digit_held when◌then◌else◌
 first_held n {d = d} {c = c} p none g =
     rw (
       is_no_blank c (past g),
@@ -68,7 +68,7 @@ first w {d} {c} p b g = rw (worth g, unstored w d b, first_held w.named p b g)
 
 -- a second one
 pub second : (w : Reader) {d v c : ℕ} → d < 16 → Digit v c → feed (with_held w (Half d)) c ≡ with_held (pushed w (d * 16 + v)) Whole
-unfolding feed with_held step stored_by half_held joined pushed if◌then◌else◌
+unfolding feed with_held step stored_by half_held joined pushed when◌then◌else◌
 second w {d} {v} {c} h g =
     rw (worth g, leb_yes {a = suc v} {b = 16} (small g), pair)
     (by_lt w.count bytes_kept (λ p e. rw e) (λ p e. rw e))
@@ -78,7 +78,7 @@ second w {d} {v} {c} h g =
 
 -- THE BYTES
 pub content_pushed : (w : Reader) (x : ℕ) → length w.bytes ≡ bytes_kept → w.count ≤ bytes_kept → content (pushed w x) ≡ take bytes_kept (content w ++ (x ∷ []))
-unfolding content pushed if◌then◌else◌
+unfolding content pushed when◌then◌else◌
 content_pushed w x r m =
     by_lt w.count bytes_kept
     (λ p e. rw (e, add-one, take-suc-set w.bytes w.count x (omega arith)) (sym (take_all bytes_kept _ (omega (arith, fits p)))))
@@ -93,7 +93,7 @@ take_again (suc n) [] b = refl
 take_again (suc n) (x ∷ l) b = ap (λ (k : Bytes). x ∷ k) (take_again n l b)
 
 ready_pushed : (w : Reader) (x : ℕ) → Ready w → Ready (with_held (pushed w x) Whole)
-unfolding with_held pushed if◌then◌else◌
+unfolding with_held pushed when◌then◌else◌
 ready_pushed w x r =
     by_lt w.count bytes_kept
     (λ p e. rw e (record { named = r.named; room = length-set w.bytes w.count x ∙ r.room; most = omega arith; between = some }))
@@ -106,7 +106,7 @@ pub data Steady : Held → Type 0 where
   at_dash : Steady Dash
 
 pub blank_steady : (w : Reader) {h : Held} (c : ℕ) → Steady h → is_blank c ≡ true → feed (with_held w h) c ≡ with_held w h
-unfolding feed with_held step stored_by opened byte_held dashed if◌then◌else◌
+unfolding feed with_held step stored_by opened byte_held dashed when◌then◌else◌
 blank_steady w c at_start e = rw e
 blank_steady w c after_bytes e = rw e
 blank_steady w c at_dash e = rw e
@@ -160,7 +160,7 @@ frame (byte {b} {x} {d} {v} g k s) w r =
     ∙ ap line_of (stays s (with_held (pushed w (d * 16 + v)) Whole) (ready_pushed w (d * 16 + v) r) (unfold with_held in refl))
 
 pushed_named : (w : Reader) (x : ℕ) → (pushed w x).named ≡ w.named
-unfolding pushed if◌then◌else◌
+unfolding pushed when◌then◌else◌
 pushed_named w x = by_lt w.count bytes_kept (λ p e. rw e) (λ p e. rw e)
 
 -- whether the list has named its outputs stays

@@ -1,6 +1,6 @@
 -- The text of a list of frames, read one byte at a time. Only newlines are not fed: they end a line.
 use Rattle.std.specs.Prelude.{Bool, true, false, [], ◌∷◌, ℕ, suc, ◌+◌, min, ltb, eqb, set, replicate, take}
-use Rattle.lighting_levels.specs.Paper.Choice.{if◌then◌else◌}
+use Rattle.lighting_levels.specs.Paper.Choice.{when◌then◌else◌}
 use Rattle.lighting_frames.specs.Paper.Kinds.{longest_frame}
 use Rattle.lighting_frames.specs.Paper.Frames.{Bytes}
 use Rattle.text_characters.specs.Characters.{is_blank, hex_value, byte_pair}
@@ -17,7 +17,7 @@ use Rattle.text_reading.specs.declared.Reader.{Reader}
 
 -- WHAT A LINE HOLDS after one more character c, worth v as a digit. A first digit of a byte:
 unfoldable pub digit_held : ℕ → Held
-digit_held v = if ltb v 16 then Half v else Spoilt NoDigit
+digit_held v = when ltb v 16 then Half v else Spoilt NoDigit
 
 -- the first line that says something names the outputs
 unfoldable pub naming_held : Heading → ℕ → ℕ → Held
@@ -27,20 +27,20 @@ naming_held h v c = Naming (heading_step h v c)
 -- is to name them; after that, `-` is the empty string, and all else is to be bytes
 unfoldable pub opened : Bool → ℕ → ℕ → Held
 opened named v c =
-    if is_blank c then Blank
-    else if eqb c 35 then Comment
-    else if named then (if eqb c 45 then Dash else digit_held v)
+    when is_blank c then Blank
+    else when eqb c 35 then Comment
+    else when named then (when eqb c 45 then Dash else digit_held v)
     else naming_held fresh_heading v c
 
 -- blanks stand between bytes, and not within one
 unfoldable pub byte_held : ℕ → ℕ → Held
-byte_held v c = if is_blank c then Whole else digit_held v
+byte_held v c = when is_blank c then Whole else digit_held v
 
 unfoldable pub half_held : ℕ → ℕ → Held
-half_held v c = if ltb v 16 then Whole else if is_blank c then Spoilt HalfByte else Spoilt NoDigit
+half_held v c = when ltb v 16 then Whole else when is_blank c then Spoilt HalfByte else Spoilt NoDigit
 
 unfoldable pub dashed : ℕ → Held
-dashed c = if is_blank c then Dash else Spoilt NoDigit
+dashed c = when is_blank c then Dash else Spoilt NoDigit
 
 unfoldable pub step : Bool → Held → ℕ → ℕ → Held
 step named Blank v c = opened named v c
@@ -67,7 +67,7 @@ bytes_kept = longest_frame + 1
 
 unfoldable pub pushed : Reader → ℕ → Reader
 pushed w x =
-    if ltb w.count bytes_kept
+    when ltb w.count bytes_kept
     then record { named = w.named; line = w.line; held = w.held; bytes = set w.bytes w.count x; count = w.count + 1 }
     else w
 
@@ -80,7 +80,7 @@ stored_by w Blank v = w
 stored_by w Comment v = w
 stored_by w (Naming h) v = w
 stored_by w Whole v = w
-stored_by w (Half d) v = if ltb v 16 then joined w d v else w
+stored_by w (Half d) v = when ltb v 16 then joined w d v else w
 stored_by w Dash v = w
 stored_by w (Spoilt f) v = w
 
@@ -97,11 +97,11 @@ fed w x = run feed w x
 -- the characters before the first newline, and how many they are
 unfoldable pub fed_line : Reader → Bytes → Reader
 fed_line w [] = w
-fed_line w (c ∷ x) = if eqb c 10 then w else fed_line (feed w c) x
+fed_line w (c ∷ x) = when eqb c 10 then w else fed_line (feed w c) x
 
 unfoldable pub line_length : Bytes → ℕ
 line_length [] = 0
-line_length (c ∷ x) = if eqb c 10 then 0 else suc (line_length x)
+line_length (c ∷ x) = when eqb c 10 then 0 else suc (line_length x)
 
 -- A LINE'S END
 unfoldable pub heading_line : Ending → Line

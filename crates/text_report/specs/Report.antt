@@ -1,7 +1,7 @@
 -- The report for people: a line for each output. Levels are in percent, cut to hundredths; times since the
 -- start of the panel.
 use Rattle.std.specs.Prelude.{Bool, [], ◌∷◌, ◌++◌, ℕ, ◌+◌, ◌*◌, ◌/◌, ◌%◌, ltb}
-use Rattle.lighting_levels.specs.Paper.Choice.{if◌then◌else◌}
+use Rattle.lighting_levels.specs.Paper.Choice.{when◌then◌else◌}
 use Rattle.lighting_frames.specs.Paper.Frames.{Bytes}
 use Rattle.lighting_outputs.specs.Paper.Value.{present_value, progress_value, lit}
 use Rattle.lighting_outputs.specs.Paper.Relay.{relay_state}
@@ -28,7 +28,7 @@ three_digits n = digit (n / 100) ++ two_digits n
 
 -- a number to the right in three places
 unfoldable pub lead : ℕ → Bytes
-lead n = if ltb n 10 then text "  " else if ltb n 100 then text " " else []
+lead n = when ltb n 10 then text "  " else when ltb n 100 then text " " else []
 
 unfoldable pub aligned : ℕ → Bytes
 aligned n = lead n ++ decimal n
@@ -53,7 +53,7 @@ abbrev pub gap : Bytes
 gap = text "  "
 
 unfoldable pub either : Bytes → Bytes → Bool → Bytes
-either this that b = if b then this else that
+either this that b = when b then this else that
 
 -- the names of clause 12.X's operations, one as long as the other
 unfoldable pub operation_name : Operation → Bytes

@@ -9,7 +9,7 @@ use Prim.Native.Nat.{ℕ, suc, ◌-◌, ◌≤◌, ◌<◌}
 use native.Mathlib.Omega.{arith}
 use lib.Dec.{ltb, eqb}
 use lib.ListN.{get_or, length, get_or-eq_default}
-use Rattle.lighting_levels.specs.Paper.Choice.{if◌then◌else◌, ◌also◌}
+use Rattle.lighting_levels.specs.Paper.Choice.{when◌then◌else◌, ◌also◌}
 use Rattle.lighting_outputs.specs.declared.Parameters.{Parameters}
 use Rattle.lighting_levels.specs.Paper.Level.{real, level_of}
 use Rattle.lighting_levels.specs.Paper.Field.{byte_at, big_endian}
@@ -41,17 +41,17 @@ use Rattle.lighting_outputs.specs.Paper.Properties.{property_of, change_of}
 -- THE TABLE OF KINDS: 01 to 05 and 10 to 1B have these lengths, and no other kind is known
 pub lengths : map kind_length (0x01 ∷ 0x02 ∷ 0x03 ∷ 0x04 ∷ 0x05 ∷ 0x10 ∷ 0x11 ∷ 0x12 ∷ 0x13 ∷ 0x14 ∷ 0x15 ∷ 0x16 ∷ 0x17 ∷ 0x18 ∷ 0x19 ∷ 0x1a ∷ 0x1b ∷ [])
     ≡ 7 ∷ 18 ∷ 14 ∷ 18 ∷ 14 ∷ 17 ∷ 21 ∷ 25 ∷ 21 ∷ 25 ∷ 17 ∷ 17 ∷ 21 ∷ 21 ∷ 21 ∷ 17 ∷ 31 ∷ []
-unfolding kind_length kind_row if◌then◌else◌
+unfolding kind_length kind_row when◌then◌else◌
 lengths = refl
 
 -- no kind is longer than the longest frame (proofs/KindTable.antt, `length_most`), and 1B is as long
 pub longest_kind : kind_length 0x1b ≡ longest_frame
-unfolding kind_length kind_row if◌then◌else◌
+unfolding kind_length kind_row when◌then◌else◌
 longest_kind = refl
 
 pub unknown_low : map kind_length (0x00 ∷ 0x06 ∷ 0x07 ∷ 0x08 ∷ 0x09 ∷ 0x0a ∷ 0x0b ∷ 0x0c ∷ 0x0d ∷ 0x0e ∷ 0x0f ∷ [])
     ≡ 0 ∷ 0 ∷ 0 ∷ 0 ∷ 0 ∷ 0 ∷ 0 ∷ 0 ∷ 0 ∷ 0 ∷ 0 ∷ []
-unfolding kind_length kind_row if◌then◌else◌
+unfolding kind_length kind_row when◌then◌else◌
 unknown_low = refl
 
 pub unknown_high : (k : ℕ) → 0x1c ≤ k → kind_length k ≡ 0
@@ -62,7 +62,7 @@ unknown_high k h = ap (λ (row : KindRow). row.length) past
     beyond i l = get_or-eq_default command_rows unknown_row l
 
     past : kind_row k ≡ unknown_row
-    past = unfold kind_row if◌then◌else◌ in (rw (leb_yes {a = 0x10} {b = k} (omega arith)) (beyond (k - 0x10) (omega arith)))
+    past = unfold kind_row when◌then◌else◌ in (rw (leb_yes {a = 0x10} {b = k} (omega arith)) (beyond (k - 0x10) (omega arith)))
 
 -- an unknown kind has no length, kind 01 is the clock's, and every other asks something
 abbrev Fits : ℕ → ℕ → Kind → Bool
@@ -71,7 +71,7 @@ Fits k l ClockKind = eqb k 1 also ltb 0 l
 Fits k l (CallKind action) = ltb 1 k also ltb 0 l
 
 fits : (k : ℕ) → Fits k (kind_length k) (kind_row k).kind ≡ true
-unfolding kind_length rows_from if◌then◌else◌
+unfolding kind_length rows_from when◌then◌else◌
 fits k = each_row (λ (n : ℕ) (row : KindRow). Fits n row.length row.kind) (λ n. refl) refl refl k
 
 -- WHAT THE BYTES ASK by the kind k: nothing, unless it is a call's
@@ -106,7 +106,7 @@ module _ (p : Parameters) (c : ℕ) (b : Bytes) where
       by (CallKind action) q h = let l : 1 ≤ kind_length (byte_at b 0) = le_of (also_both h).1 in absurd (omega arith)
 
   pub three : kind_length (byte_at b 0) ≢ 0 → length b ≢ kind_length (byte_at b 0) → parse p c b ≡ Bad 3
-  unfolding parse_by if◌then◌else◌
+  unfolding parse_by when◌then◌else◌
   three known n = parsed (Bad 3) by
     where
       by : (k : Kind) → Parsed k (Bad 3)
@@ -116,7 +116,7 @@ module _ (p : Parameters) (c : ℕ) (b : Bytes) where
 
   module _ (known : kind_length (byte_at b 0) ≢ 0) (sized : length b ≡ kind_length (byte_at b 0)) where
     pub clock : byte_at b 0 ≡ 1 → parse p c b ≡ Clock (big_endian 6 b 1)
-    unfolding parse_by clock_of if◌then◌else◌
+    unfolding parse_by clock_of when◌then◌else◌
     clock e = parsed (Clock (big_endian 6 b 1)) by
       where
         by : (k : Kind) → Parsed k (Clock (big_endian 6 b 1))
@@ -126,7 +126,7 @@ module _ (p : Parameters) (c : ℕ) (b : Bytes) where
 
     module _ (call : byte_at b 0 ≢ 1) where
       calls : parse p c b ≡ called p c (the_call p b)
-      unfolding parse_by call_of if◌then◌else◌
+      unfolding parse_by call_of when◌then◌else◌
       calls = parsed (called p c (the_call p b)) by
         where
           by : (k : Kind) → Parsed k (called p c (the_call p b))
@@ -135,44 +135,44 @@ module _ (p : Parameters) (c : ℕ) (b : Bytes) where
           by (CallKind action) q h = rw (q, eqb_hit {a = length b} {b = kind_length (byte_at b 0)} sized)
 
       pub four_station : p.stations ≤ byte_at b 1 → parse p c b ≡ Bad 4
-      unfolding called if◌then◌else◌
+      unfolding called when◌then◌else◌
       four_station l = calls ∙ rw (leb_no {a = suc (byte_at b 1)} {b = p.stations} (omega arith))
 
       pub four_number : byte_at b 1 < p.stations → big_endian 4 b 2 ≡ 0 → parse p c b ≡ Bad 4
-      unfolding called if◌then◌else◌
+      unfolding called when◌then◌else◌
       four_number l e = calls ∙ rw (leb_yes {a = suc (byte_at b 1)} {b = p.stations} l, eqb_hit {a = big_endian 4 b 2} {b = 0} e)
 
       pub five : byte_at b 1 < p.stations → big_endian 4 b 2 ≢ 0 → c ≤ byte_at b 12 → parse p c b ≡ Bad 5
-      unfolding called if◌then◌else◌
+      unfolding called when◌then◌else◌
       five l n m =
           calls ∙ rw (leb_yes {a = suc (byte_at b 1)} {b = p.stations} l, eqb_miss {a = big_endian 4 b 2} {b = 0} n, leb_no {a = suc (byte_at b 12)} {b = c} (omega arith))
 
       -- else it is a call, and the request is read off the bytes from 13 on
       pub call_of_lem : byte_at b 1 < p.stations → big_endian 4 b 2 ≢ 0 → byte_at b 12 < c → parse p c b ≡ Calls (the_call p b)
-      unfolding called if◌then◌else◌
+      unfolding called when◌then◌else◌
       call_of_lem l n m =
           calls ∙ rw (leb_yes {a = suc (byte_at b 1)} {b = p.stations} l, eqb_miss {a = big_endian 4 b 2} {b = 0} n, leb_yes {a = suc (byte_at b 12)} {b = c} m)
 
 -- byte 13 is the priority, and kind 02's REAL follows it
 module _ (p : Parameters) (b : Bytes) where
   pub write_slot : (i v : ℕ) → Slot i → byte_at b 13 ≡ suc i → level_of (real (big_endian 4 b 14)) ≡ Units v → asked p 2 b ≡ ToOutput (Write i v)
-  unfolding kind_row request_of write_of write_level if◌then◌else◌
+  unfolding kind_row request_of write_of write_level when◌then◌else◌
   write_slot i v k n e = let z : suc i - 1 ≡ i = omega arith in rw (n, priority_yes i k, e, z)
 
   pub write_real : (i : ℕ) → Slot i → byte_at b 13 ≡ suc i → level_of (real (big_endian 4 b 14)) ≡ OutOfRange → asked p 2 b ≡ Refuse 11
-  unfolding kind_row request_of write_of write_level if◌then◌else◌
+  unfolding kind_row request_of write_of write_level when◌then◌else◌
   write_real i k n e = rw (n, priority_yes i k, e)
 
   pub empty_slot : (i : ℕ) → Slot i → byte_at b 13 ≡ suc i → asked p 3 b ≡ ToOutput (Empty i)
-  unfolding kind_row request_of empty_of if◌then◌else◌
+  unfolding kind_row request_of empty_of when◌then◌else◌
   empty_slot i k n = let z : suc i - 1 ≡ i = omega arith in rw (n, priority_yes i k, z)
 
   pub write_priority : NoPriority (byte_at b 13) → asked p 2 b ≡ Refuse 10
-  unfolding kind_row request_of write_of if◌then◌else◌
+  unfolding kind_row request_of write_of when◌then◌else◌
   write_priority h = rw (priority_no (byte_at b 13) h)
 
   pub empty_priority : NoPriority (byte_at b 13) → asked p 3 b ≡ Refuse 10
-  unfolding kind_row request_of empty_of if◌then◌else◌
+  unfolding kind_row request_of empty_of when◌then◌else◌
   empty_priority h = rw (priority_no (byte_at b 13) h)
 
   -- and what they do: kinds 02 and 03 are answered Done, and act on slot i alone through `written` and
@@ -188,9 +188,9 @@ module _ (p : Parameters) (b : Bytes) where
   empties_slot t o i k n = rw (empty_slot i k n)
 
 pub read_asked : (p : Parameters) (b : Bytes) → asked p 5 b ≡ ToOutput (Read (property_of (byte_at b 13)))
-unfolding kind_row request_of if◌then◌else◌
+unfolding kind_row request_of when◌then◌else◌
 read_asked p b = refl
 
 pub write_asked : (p : Parameters) (b : Bytes) → asked p 4 b ≡ change_of p (property_of (byte_at b 13)) (big_endian 4 b 14)
-unfolding kind_row request_of if◌then◌else◌
+unfolding kind_row request_of when◌then◌else◌
 write_asked p b = refl

@@ -2,7 +2,7 @@
 use mathlib.Core.Path.{◌≡◌, refl}
 use Prim.Native.Nat.{ℕ}
 use lib.Dec.{eqb, ltb}
-use Rattle.lighting_levels.specs.Paper.Choice.{if◌then◌else◌}
+use Rattle.lighting_levels.specs.Paper.Choice.{when◌then◌else◌}
 use Rattle.lighting_outputs.specs.Paper.Parameters.{document01}
 use Rattle.lighting_frames.specs.Paper.Frames.{called}
 use Rattle.lighting_frames.specs.declared.Call.{Call}
@@ -11,8 +11,8 @@ use Rattle.lighting_frames.specs.declared.Frame.TheVariants.{Bad, Calls}
 -- 'station over 7, or number 0' is 4, 'output not in the table' is 5
 pub stations : (outputs c : ℕ) (call : Call)
     → called (document01 outputs) c call
-    ≡ (if ltb call.station 8
-    then (if eqb call.number 0 then Bad 4 else if ltb call.output c then Calls call else Bad 5)
+    ≡ (when ltb call.station 8
+    then (when eqb call.number 0 then Bad 4 else when ltb call.output c then Calls call else Bad 5)
     else Bad 4)
 unfolding called
 stations outputs c call = refl

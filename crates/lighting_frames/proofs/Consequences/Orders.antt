@@ -4,7 +4,7 @@ use mathlib.Core.Path.{◌≡◌, refl, ◌∙◌}
 use mathlib.Core.List.{List, [], ◌∷◌, map}
 use Prim.Native.Nat.{ℕ, ◌^◌, ◌<◌}
 use lib.Dec.{eqb}
-use Rattle.lighting_levels.specs.Paper.Choice.{if◌then◌else◌}
+use Rattle.lighting_levels.specs.Paper.Choice.{when◌then◌else◌}
 use Rattle.lighting_outputs.specs.declared.Parameters.{Parameters}
 use Rattle.lighting_levels.specs.Paper.Level.{real}
 use Rattle.lighting_levels.specs.Paper.Field.{big_endian}
@@ -36,21 +36,21 @@ last t o = map (reads t o) (0x0f ∷ 0x10 ∷ 0x11 ∷ 0x12 ∷ 0x13 ∷ 0x14 �
 
 -- 'FFFFFFFF means absent'
 abbrev pub lasting_read : ℕ → Answer
-lasting_read d = if eqb d 0xffff_ffff then Absent else Value d
+lasting_read d = when eqb d 0xffff_ffff then Absent else Value d
 
 -- THE TABLE OF KINDS, as a command reads back: its fields in the order of the frame are x, y, z
 abbrev pub sent : ℕ → ℕ → ℕ → ℕ → List Answer
 sent k x y z =
-    if eqb k 0x10 then Value 0 ∷ Absent ∷ Absent ∷ Absent ∷ Absent ∷ lasting_read x ∷ []
-    else if eqb k 0x11 then Value 1 ∷ Value x ∷ Absent ∷ Absent ∷ Absent ∷ lasting_read y ∷ []
-    else if eqb k 0x12 then Value 2 ∷ Value x ∷ Absent ∷ Absent ∷ Value y ∷ lasting_read z ∷ []
-    else if eqb k 0x13 then Value 3 ∷ Value x ∷ Absent ∷ Absent ∷ Absent ∷ lasting_read y ∷ []
-    else if eqb k 0x14 then Value 4 ∷ Value x ∷ Value y ∷ Absent ∷ Absent ∷ lasting_read z ∷ []
-    else if eqb k 0x15 then Value 5 ∷ Absent ∷ Absent ∷ Absent ∷ Absent ∷ lasting_read x ∷ []
-    else if eqb k 0x16 then Value 6 ∷ Absent ∷ Absent ∷ Absent ∷ Absent ∷ lasting_read x ∷ []
-    else if eqb k 0x17 then Value 7 ∷ Absent ∷ Absent ∷ Value x ∷ Absent ∷ lasting_read y ∷ []
-    else if eqb k 0x18 then Value 8 ∷ Absent ∷ Absent ∷ Value x ∷ Absent ∷ lasting_read y ∷ []
-    else if eqb k 0x19 then Value 9 ∷ Value x ∷ Absent ∷ Absent ∷ Absent ∷ lasting_read y ∷ []
+    when eqb k 0x10 then Value 0 ∷ Absent ∷ Absent ∷ Absent ∷ Absent ∷ lasting_read x ∷ []
+    else when eqb k 0x11 then Value 1 ∷ Value x ∷ Absent ∷ Absent ∷ Absent ∷ lasting_read y ∷ []
+    else when eqb k 0x12 then Value 2 ∷ Value x ∷ Absent ∷ Absent ∷ Value y ∷ lasting_read z ∷ []
+    else when eqb k 0x13 then Value 3 ∷ Value x ∷ Absent ∷ Absent ∷ Absent ∷ lasting_read y ∷ []
+    else when eqb k 0x14 then Value 4 ∷ Value x ∷ Value y ∷ Absent ∷ Absent ∷ lasting_read z ∷ []
+    else when eqb k 0x15 then Value 5 ∷ Absent ∷ Absent ∷ Absent ∷ Absent ∷ lasting_read x ∷ []
+    else when eqb k 0x16 then Value 6 ∷ Absent ∷ Absent ∷ Absent ∷ Absent ∷ lasting_read x ∷ []
+    else when eqb k 0x17 then Value 7 ∷ Absent ∷ Absent ∷ Value x ∷ Absent ∷ lasting_read y ∷ []
+    else when eqb k 0x18 then Value 8 ∷ Absent ∷ Absent ∷ Value x ∷ Absent ∷ lasting_read y ∷ []
+    else when eqb k 0x19 then Value 9 ∷ Value x ∷ Absent ∷ Absent ∷ Absent ∷ lasting_read y ∷ []
     else Value 10 ∷ Absent ∷ Absent ∷ Absent ∷ Absent ∷ lasting_read x ∷ []
 
 -- what reads back of an operation k with the duration field d
@@ -68,7 +68,7 @@ back k d =
 module _ (p : Parameters) (t t' : ℕ) (o : Output) where
   -- an operation whose fields are in range, and any
   of_command_with_duration : (k : Operation) (d : ℕ) → (alone t o (command_with_duration p k (plain_duration d))).answer ≡ Done → last t' (alone t o (command_with_duration p k (plain_duration d))).output ≡ back k d
-  unfolding acted served done unchanged after_events plain_duration command_with_duration command_lasting commanded commanded_from with_command property_of numbered read_property last_duration if◌then◌else◌
+  unfolding acted served done unchanged after_events plain_duration command_with_duration command_lasting commanded commanded_from with_command property_of numbered read_property last_duration when◌then◌else◌
   of_command_with_duration k d =
       by_eq d 0xffff_ffff
       (λ u e. rw e (λ h. refl))
@@ -79,7 +79,7 @@ module _ (p : Parameters) (t t' : ℕ) (o : Output) where
 
   of_command_request : (k : Operation) (d : ℕ) (l : List Answer) → (fields_refusal p (fields_of k) ≡ 0 → back k d ≡ l)
       → (alone t o (command_request p k d)).answer ≡ Done → last t' (alone t o (command_request p k d)).output ≡ l
-  unfolding command_request command_of command_request_by if◌then◌else◌
+  unfolding command_request command_of command_request_by when◌then◌else◌
   of_command_request k d l f =
       by_eq (fields_refusal p (fields_of k)) 0
       (λ u e. rw e (λ h. of_command_with_duration k d h ∙ f u))
@@ -110,54 +110,54 @@ module _ (p : Parameters) (t t' : ℕ) (o : Output) where
         ∷ command_request p (Goto (real x)) y
         ∷ command_request p Relinquish x
         ∷ []
-    unfolding kind_row request_of if◌then◌else◌
+    unfolding kind_row request_of when◌then◌else◌
     commands_asked = refl
 
     abbrev Then : ℕ → Type 0
     Then k = (alone t o (asked p k b)).answer ≡ Done → last t' (alone t o (asked p k b)).output ≡ sent k x y z
 
     pub stop : Then 0x10
-    unfolding kind_row request_of operation_number fields_of real_field_answer time_field_answer real_answer if◌then◌else◌
+    unfolding kind_row request_of operation_number fields_of real_field_answer time_field_answer real_answer when◌then◌else◌
     stop = of_command_request Stop x (sent 0x10 x y z) (λ u. refl)
 
     pub step_up : Then 0x15
-    unfolding kind_row request_of operation_number fields_of real_field_answer time_field_answer real_answer if◌then◌else◌
+    unfolding kind_row request_of operation_number fields_of real_field_answer time_field_answer real_answer when◌then◌else◌
     step_up = of_command_request StepUp x (sent 0x15 x y z) (λ u. refl)
 
     pub step_down : Then 0x16
-    unfolding kind_row request_of operation_number fields_of real_field_answer time_field_answer real_answer if◌then◌else◌
+    unfolding kind_row request_of operation_number fields_of real_field_answer time_field_answer real_answer when◌then◌else◌
     step_down = of_command_request StepDown x (sent 0x16 x y z) (λ u. refl)
 
     pub relinquish : Then 0x1a
-    unfolding kind_row request_of operation_number fields_of real_field_answer time_field_answer real_answer if◌then◌else◌
+    unfolding kind_row request_of operation_number fields_of real_field_answer time_field_answer real_answer when◌then◌else◌
     relinquish = of_command_request Relinquish x (sent 0x1a x y z) (λ u. refl)
 
     pub fade_to : x < 2 ^ 32 → Then 0x11
-    unfolding kind_row request_of operation_number fields_of real_field_answer time_field_answer real_answer if◌then◌else◌
+    unfolding kind_row request_of operation_number fields_of real_field_answer time_field_answer real_answer when◌then◌else◌
     fade_to h = of_command_request (FadeTo (real x)) y (sent 0x11 x y z) (λ u. rw (level_field_kept x h (none_met p _ u).level).written)
 
     pub ramp_to : x < 2 ^ 32 → Then 0x13
-    unfolding kind_row request_of operation_number fields_of real_field_answer time_field_answer real_answer if◌then◌else◌
+    unfolding kind_row request_of operation_number fields_of real_field_answer time_field_answer real_answer when◌then◌else◌
     ramp_to h = of_command_request (RampTo (real x)) y (sent 0x13 x y z) (λ u. rw (level_field_kept x h (none_met p _ u).level).written)
 
     pub goto : x < 2 ^ 32 → Then 0x19
-    unfolding kind_row request_of operation_number fields_of real_field_answer time_field_answer real_answer if◌then◌else◌
+    unfolding kind_row request_of operation_number fields_of real_field_answer time_field_answer real_answer when◌then◌else◌
     goto h = of_command_request (Goto (real x)) y (sent 0x19 x y z) (λ u. rw (level_field_kept x h (none_met p _ u).level).written)
 
     pub step_up_by : x < 2 ^ 32 → Then 0x17
-    unfolding kind_row request_of operation_number fields_of real_field_answer time_field_answer real_answer if◌then◌else◌
+    unfolding kind_row request_of operation_number fields_of real_field_answer time_field_answer real_answer when◌then◌else◌
     step_up_by h = of_command_request (StepUpBy (real x)) y (sent 0x17 x y z) (λ u. rw (amount_field_kept x h (none_met p _ u).step).written)
 
     pub step_down_by : x < 2 ^ 32 → Then 0x18
-    unfolding kind_row request_of operation_number fields_of real_field_answer time_field_answer real_answer if◌then◌else◌
+    unfolding kind_row request_of operation_number fields_of real_field_answer time_field_answer real_answer when◌then◌else◌
     step_down_by h = of_command_request (StepDownBy (real x)) y (sent 0x18 x y z) (λ u. rw (amount_field_kept x h (none_met p _ u).step).written)
 
     -- level, fade time, duration
     pub fade_to_over : x < 2 ^ 32 → Then 0x12
-    unfolding kind_row request_of operation_number fields_of real_field_answer time_field_answer real_answer if◌then◌else◌
+    unfolding kind_row request_of operation_number fields_of real_field_answer time_field_answer real_answer when◌then◌else◌
     fade_to_over h = of_command_request (FadeToOver (real x) y) z (sent 0x12 x y z) (λ u. rw (level_field_kept x h (none_met p _ u).level).written)
 
     -- level, rate, duration
     pub ramp_to_at_rate : x < 2 ^ 32 → y < 2 ^ 32 → Then 0x14
-    unfolding kind_row request_of operation_number fields_of real_field_answer time_field_answer real_answer if◌then◌else◌
+    unfolding kind_row request_of operation_number fields_of real_field_answer time_field_answer real_answer when◌then◌else◌
     ramp_to_at_rate h k = of_command_request (RampToAtRate (real x) (real y)) z (sent 0x14 x y z) (λ u. rw ((level_field_kept x h (none_met p _ u).level).written, (amount_field_kept y k (none_met p _ u).rate).written))

@@ -1,6 +1,6 @@
 -- §1, AS AN ENGINEER READS IT: what makes a body in tags 14, for every body; a tagged duration of FFFFFFFF;
 -- property 0F; that every plain command has a form in tags, of kind 1B, and that it is read alike.
-use Rattle.lighting_levels.specs.Paper.Choice.{if◌then◌else◌}
+use Rattle.lighting_levels.specs.Paper.Choice.{when◌then◌else◌}
 use mathlib.Core.Path.{◌≡◌, refl, sym, ap, ◌∙◌}
 use mathlib.Core.Logic.{◌≢◌}
 use mathlib.Core.Bool.{Bool, true, false, false≢true}
@@ -60,7 +60,7 @@ use Rattle.lighting_outputs.specs.declared.TimeField.{TimeField}
 -- A BODY THAT IS NOT WELL TAGGED is 14, whatever else is wrong with it
 module _ (body : Bytes) where
   unless_tagged : (WellTagged body → ⊥) → read_body body ≡ Unreadable 14
-  unfolding read_body if◌then◌else◌
+  unfolding read_body when◌then◌else◌
   unless_tagged n = by_bool (well_tagged body) (λ e. absurd (n (well_tagged_lem body e))) (λ e. rw e)
 
   -- 'a length L from 2 to 17'
@@ -124,7 +124,7 @@ number_above_five body h = first_no_tag body (λ number count a b c e. omega ari
 -- an operation above 10, whatever follows
 module _ (body : Bytes) (eighteen : length body ≡ 18) (tag : byte_at body 1 ≡ 0x09) where
   operation_field : WellTagged body → field_in 0 one_octet (take (length_of body) (drop 1 body)) ≡ Holds 1 (byte_at body 2)
-  unfolding field_in within if◌then◌else◌
+  unfolding field_in within when◌then◌else◌
   operation_field w =
       let left = take (length_of body) (drop 1 body) in
       let size : 2 ≤ length left = omega (arith, w.low, w.high, length-take (length_of body) (drop 1 body), length-drop 1 body) in
@@ -141,16 +141,16 @@ module _ (body : Bytes) (eighteen : length body ≡ 18) (tag : byte_at body 1 �
 -- A TAGGED DURATION: FFFFFFFF meets 12; missing is what FFFFFFFF is in the plain kind; any other is the plain
 -- kind's
 pub duration_all_ones : (p : Parameters) → startable p ≡ true → (o : Operation) → fields_refusal p (fields_of o) ≡ 0 → tagged_request p (Reads o (Time 0xffff_ffff)) ≡ Refuse 12
-unfolding tagged_request command_of command_request_by command_with_duration command_lasting within if◌then◌else◌
+unfolding tagged_request command_of command_request_by command_with_duration command_lasting within when◌then◌else◌
 duration_all_ones p allowed o e =
     rw (e, leb_no {a = 0xffff_ffff} {b = p.duration} (omega (arith, (startable_of p allowed).duration)))
 
 pub duration_missing : (p : Parameters) (o : Operation) → tagged_request p (Reads o NoTime) ≡ command_request p o 0xffff_ffff
-unfolding tagged_request command_request plain_duration if◌then◌else◌
+unfolding tagged_request command_request plain_duration when◌then◌else◌
 duration_missing p o = refl
 
 pub duration_there : (p : Parameters) (o : Operation) (d : ℕ) → d ≢ 0xffff_ffff → tagged_request p (Reads o (Time d)) ≡ command_request p o d
-unfolding tagged_request command_request plain_duration if◌then◌else◌
+unfolding tagged_request command_request plain_duration when◌then◌else◌
 duration_there p o d n = rw (eqb_miss {a = d} {b = 0xffff_ffff} n)
 
 -- PROPERTY 0F reads the operation that tag 0 holds, byte 15 of the frame: not 1B less 10
@@ -193,7 +193,7 @@ plain_goes CommandsTagged b l h = absurd (omega arith)
 
 pub goes_in_tags : (b : Bytes) (action : Action) → (kind_row (byte_at b 0)).kind ≡ CallKind action → 0x10 ≤ byte_at b 0 → byte_at b 0 ≤ 0x1a
     → length b ≡ kind_length (byte_at b 0) → byte_at (in_tags b) 0 ≡ 0x1b
-unfolding in_tags if◌then◌else◌
+unfolding in_tags when◌then◌else◌
 goes_in_tags b action k low high l =
     let byte = kind_byte (byte_at b 0) action k in
     rw (eqb_hit {a = length b} {b = kind_length (byte_at b 0)} l, k) (plain_goes action b (omega arith) (omega arith))
@@ -206,14 +206,14 @@ request_same p action b (some f) n e s = tagged_asks b f s p
 
 pub asks_the_same : (p : Parameters) (b : Bytes) (action : Action) → Octets b → (kind_row (byte_at b 0)).kind ≡ CallKind action → 0x10 ≤ byte_at b 0 → byte_at b 0 ≤ 0x1a
     → length b ≡ kind_length (byte_at b 0) → request_of p CommandsTagged (in_tags b) ≡ request_of p action b
-unfolding in_tags if◌then◌else◌
+unfolding in_tags when◌then◌else◌
 asks_the_same p b action o k low high l =
     let byte = kind_byte (byte_at b 0) action k in
     rw (eqb_hit {a = length b} {b = kind_length (byte_at b 0)} l, k)
     (request_same p action b (plain_tags action b) (λ e. omega arith) (plain_goes action b (omega arith) (omega arith)) (same b o action byte (l ∙ ap kind_length byte)))
 
 pub read_alike : (p : Parameters) (c : ℕ) (b : Bytes) → Octets b → parse p c (in_tags b) ≡ parse p c b
-unfolding sent if◌then◌else◌
+unfolding sent when◌then◌else◌
 read_alike p c b o = parse_sent p c b (sent_as (λ (x : Bytes). true) b o)
 
 -- THE RANGES of a command are judged alike in whatever form it came, plain or in tags

@@ -1,6 +1,6 @@
 -- THE WRITER AND THE READER of a command in tags (§1): reading what the writer made gives the command back,
 -- and no other bytes do.
-use Rattle.lighting_levels.specs.Paper.Choice.{if◌then◌else◌}
+use Rattle.lighting_levels.specs.Paper.Choice.{when◌then◌else◌}
 use mathlib.Core.Path.{◌≡◌, refl, ap, ap₂}
 use mathlib.Core.Bool.{true}
 use Prim.Native.Nat.{ℕ, ◌^◌, ◌≤◌, ◌<◌}
@@ -26,7 +26,7 @@ use Rattle.lighting_frames.proofs.Tagging.Bodies.{fields_read, sizes_written, we
 
 -- A WHOLE NUMBER in the fewest octets, and read back
 pub fewest_fit : (v : ℕ) → v < 2 ^ 32 → Fits whole_octets (Holds (fewest_octets v) v)
-unfolding fewest_octets if◌then◌else◌
+unfolding fewest_octets when◌then◌else◌
 fewest_fit v h =
     by_lt v 0x100 (λ l e. rw e (omega arith, omega arith, l)) (λ l e. rw e
     (by_lt v 0x1_0000 (λ l e. rw e (omega arith, omega arith, l)) (λ l e. rw e
@@ -38,7 +38,7 @@ Word (Time v) = v < 2 ^ 32
 Word NoTime = Unit {0}
 
 pub lasting_word : (d : ℕ) → d < 2 ^ 32 → Word (plain_duration d)
-unfolding plain_duration if◌then◌else◌
+unfolding plain_duration when◌then◌else◌
 lasting_word d h = by_bool (eqb d 0xffff_ffff) (λ e. rw e tt) (λ e. rw e h)
 
 pub whole_fit : (t : TimeField) → Word t → Fits whole_octets (whole_tag t)
@@ -58,7 +58,7 @@ whole_fewest NoTime = refl
 
 -- HOW LONG: no field is of more than four octets
 fewest_most : (v : ℕ) → fewest_octets v ≤ 4
-unfolding fewest_octets if◌then◌else◌
+unfolding fewest_octets when◌then◌else◌
 fewest_most v =
     by_lt v 0x100 (λ l e. rw e (omega arith)) (λ l e. rw e
     (by_lt v 0x1_0000 (λ l e. rw e (omega arith)) (λ l e. rw e
@@ -162,7 +162,7 @@ well_made o d e w =
     well_written (tags_of o d) (tags_fit o d e w) (omega arith) (omega arith) (operation_known o d)
 
 fields_made : (o : Operation) (d : TimeField) → ExactOperation o → read_fields (tags_of o d) ≡ Reads o d
-unfolding read_fields if◌then◌else◌
+unfolding read_fields when◌then◌else◌
 fields_made o d e = rw (operation_read o d e, duration_read, own_written o d)
   where
     duration_read : time_of (tags_of o d).duration ≡ d
@@ -170,5 +170,5 @@ fields_made o d e = rw (operation_read o d e, duration_read, own_written o d)
 
 -- READING WHAT THE WRITER MADE gives back the operation and its duration
 pub reads_written : (o : Operation) (d : TimeField) → ExactOperation o → Word d → read_body (body_bytes (tags_of o d)) ≡ Reads o d
-unfolding read_body if◌then◌else◌
+unfolding read_body when◌then◌else◌
 reads_written o d e w = rw (well_made o d e w, fields_read (tags_of o d) (tags_fit o d e w)) (fields_made o d e)

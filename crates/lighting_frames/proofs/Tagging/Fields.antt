@@ -1,6 +1,6 @@
 -- THE FORM, both ways (§1): fields that were written are read, and what was read is what was written. Over
 -- any list of fields whose tags rise, so once for all six.
-use Rattle.lighting_levels.specs.Paper.Choice.{if◌then◌else◌, Every}
+use Rattle.lighting_levels.specs.Paper.Choice.{when◌then◌else◌, Every}
 use mathlib.Core.Path.{◌≡◌, refl, ap, ◌∙◌}
 use mathlib.Core.Bool.{true, false}
 use mathlib.Core.List.{List, ◌∷◌, ◌++◌, []}
@@ -50,7 +50,7 @@ sizes_length number (Missing ∷ fields) = omega (arith, sizes_length (suc numbe
 -- missing
 outside : (allowed : OctetRange) (n number : ℕ) (fields : List TagField) → allowed.most ≤ 7 → n < number
     → within (context_tag n allowed.least) (context_tag n allowed.most) (byte_at (bytes_from number fields) 0) ≡ false
-unfolding within byte_at bytes_from field_bytes if◌then◌else◌
+unfolding within byte_at bytes_from field_bytes when◌then◌else◌
 outside allowed n number [] m h = rw (leb_no {a = context_tag n allowed.least} {b = 0} (omega arith))
 outside allowed n number (Holds count value ∷ fields) m h =
     by_bool
@@ -61,12 +61,12 @@ outside allowed n number (Missing ∷ fields) m h = outside allowed n (suc numbe
 
 missing_read : (allowed : OctetRange) (n : ℕ) (left : Bytes) → within (context_tag n allowed.least) (context_tag n allowed.most) (byte_at left 0) ≡ false
     → field_in n allowed left ≡ Missing
-unfolding field_in if◌then◌else◌
+unfolding field_in when◌then◌else◌
 missing_read allowed n left e = rw e
 
 held_read : (allowed : OctetRange) (n count value : ℕ) (rest : Bytes) → Fits allowed (Holds count value)
     → field_in n allowed (context_tag n count ∷ (octets count value ++ rest)) ≡ Holds count value
-unfolding field_in within byte_at if◌then◌else◌
+unfolding field_in within byte_at when◌then◌else◌
 held_read allowed n count value rest f =
     let left = context_tag n count ∷ (octets count value ++ rest) in
     let same : context_tag n count - context_tag n 0 ≡ count = omega arith in
@@ -107,7 +107,7 @@ pub data Read (allowed : OctetRange) (n : ℕ) (left : Bytes) : TagField → Typ
   nothing : Read allowed n left Missing
 
 pub read_as : (allowed : OctetRange) (n : ℕ) (left : Bytes) → Read allowed n left (field_in n allowed left)
-unfolding field_in if◌then◌else◌
+unfolding field_in when◌then◌else◌
 read_as allowed n left =
     let count = byte_at left 0 - context_tag n 0 in
     by_bool

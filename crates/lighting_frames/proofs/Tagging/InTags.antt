@@ -1,5 +1,5 @@
 -- IT ACTS AS THE PLAIN KIND DOES (§1), frame by frame and in lists.
-use Rattle.lighting_levels.specs.Paper.Choice.{if◌then◌else◌}
+use Rattle.lighting_levels.specs.Paper.Choice.{when◌then◌else◌}
 use mathlib.Core.Path.{◌≡◌, refl, sym, ap, ap₂, ◌∙◌}
 use mathlib.Core.Logic.{◌≢◌}
 use mathlib.Core.Bool.{Bool, true, false≢true}
@@ -67,14 +67,14 @@ module _ {action : Action} (b : Bytes) (f : TagFields) (s : Same action b f) whe
 
   -- and so is what is asked
   body_asks : (p : Parameters) → tagged_request p (read_body (body_bytes f)) ≡ request_of p action b
-  unfolding read_body if◌then◌else◌
+  unfolding read_body when◌then◌else◌
   body_asks p =
       let n = sizes_written f in
       let w = well_written f s.fit (omega (arith, s.low)) (omega (arith, s.high)) s.known in
       rw (w, fields_read f s.fit) (s.asks p)
 
   body_reads : read_body (body_bytes f) ≡ Reads (operation_of f) (time_of f.duration)
-  unfolding read_body read_fields if◌then◌else◌
+  unfolding read_body read_fields when◌then◌else◌
   body_reads =
       let n = sizes_written f in
       let w = well_written f s.fit (omega (arith, s.low)) (omega (arith, s.high)) s.known in
@@ -91,7 +91,7 @@ module _ {action : Action} (b : Bytes) (f : TagFields) (s : Same action b f) whe
       (common_byte 1 (omega arith) (omega arith), common_number 4 2 (omega arith) (omega arith), common_number 6 6 (omega arith) (omega arith), common_byte 12 (omega arith) (omega arith), tagged_asks p)
 
   pub parse_tagged : (p : Parameters) (c : ℕ) → parse p c tagged ≡ called p c (call_of p action b)
-  unfolding parse parse_by kind_row byte_at if◌then◌else◌
+  unfolding parse parse_by kind_row byte_at when◌then◌else◌
   parse_tagged p c = rw (eqb_hit {a = length tagged} {b = 31} length_tagged) (ap (called p c) (call_same p))
 
   -- all of the plain frame can be told from it
@@ -118,7 +118,7 @@ framed_by_as (CallKind action) b o k l =
     framed_as action b (plain_tags action b) k l (same b o action byte (l ∙ ap kind_length byte))
 
 pub sent_as : (chosen : Bytes → Bool) (b : Bytes) → Octets b → SentAs b (sent chosen b)
-unfolding sent in_tags if◌then◌else◌
+unfolding sent in_tags when◌then◌else◌
 sent_as chosen b o =
     by_bool (chosen b)
     (λ e. rw e
@@ -128,7 +128,7 @@ sent_as chosen b o =
 -- READ ALIKE
 parse_call : (p : Parameters) (c : ℕ) (b : Bytes) (action : Action) → (kind_row (byte_at b 0)).kind ≡ CallKind action → length b ≡ kind_length (byte_at b 0)
     → parse p c b ≡ called p c (call_of p action b)
-unfolding parse parse_by kind_length if◌then◌else◌
+unfolding parse parse_by kind_length when◌then◌else◌
 parse_call p c b action k l = rw (k, eqb_hit {a = length b} {b = (kind_row (byte_at b 0)).length} l)
 
 pub parse_sent : (p : Parameters) (c : ℕ) (b : Bytes) {b' : Bytes} → SentAs b b' → parse p c b' ≡ parse p c b

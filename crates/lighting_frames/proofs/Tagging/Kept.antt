@@ -1,6 +1,6 @@
 -- EVERY COMMAND THAT THE PANEL KEEPS (§1): reading what the writer makes of it gives it back, for every
 -- command that a string of bytes asks for, in whatever form it came.
-use Rattle.lighting_levels.specs.Paper.Choice.{if◌then◌else◌}
+use Rattle.lighting_levels.specs.Paper.Choice.{when◌then◌else◌}
 use mathlib.Core.Path.{◌≡◌, refl, ap}
 use mathlib.Core.Bool.{true}
 use mathlib.Core.List.{◌∷◌}
@@ -96,11 +96,11 @@ level_none i (Units v) = λ k h. cc
 level_none i OutOfRange = refused_none _
 
 write_none : (n x : ℕ) → AsksNoCommand (write_of n x)
-unfolding write_of if◌then◌else◌
+unfolding write_of when◌then◌else◌
 write_none n x = by_bool (is_priority n) (λ e. rw e (level_none _ (level_of (real x)))) (λ e. rw e (refused_none _))
 
 empty_none : (n : ℕ) → AsksNoCommand (empty_of n)
-unfolding empty_of if◌then◌else◌
+unfolding empty_of when◌then◌else◌
 empty_none n = by_bool (is_priority n) (λ e. rw e (λ k h. cc)) (λ e. rw e (refused_none _))
 
 to_none : (n : Property) (l : Level) → AsksNoCommand (change_to n l)
@@ -109,7 +109,7 @@ to_none n (Units v) = λ k h. cc
 to_none n OutOfRange = refused_none _
 
 by_none : (range : Range) (n : Property) (x : ℕ) → AsksNoCommand (change_by range n x)
-unfolding change_by if◌then◌else◌
+unfolding change_by when◌then◌else◌
 by_none Percent n x = to_none n (level_of (real x))
 by_none Limit n x = to_none n (limit_of (real x))
 by_none Amount n x = by_bool (is_amount (real x)) (λ e. rw e (λ k h. cc)) (λ e. rw e (refused_none _))
@@ -152,14 +152,14 @@ brought f fit known =
     }
 
 asks_fields : (p : Parameters) (f : TagFields) → AllFit tag_octets (listed f) → holds_at_most 10 f.operation ≡ true → Asks p (tagged_request p (read_fields f))
-unfolding read_fields tagged_request if◌then◌else◌
+unfolding read_fields tagged_request when◌then◌else◌
 asks_fields p f fit known =
     by_bool (own_tags (tags_of (operation_of f) (time_of f.duration)) f)
     (λ e. rw e (command (operation_of f) (time_of f.duration) (brought f fit known) (time_word_lem f.duration fit.1.1.1.1.1.0)))
     (λ e. rw e (nothing (refused_none _)))
 
 asks_body : (p : Parameters) (body : Bytes) → Octets body → Asks p (tagged_request p (read_body body))
-unfolding read_body tagged_request if◌then◌else◌
+unfolding read_body tagged_request when◌then◌else◌
 asks_body p body o =
     by_bool (well_tagged body)
     (λ e. rw e (asks_fields p (body_fields body) (fields_fit body o) (well_tagged_lem body e).known))

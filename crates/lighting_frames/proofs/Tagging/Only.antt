@@ -1,6 +1,6 @@
 -- NO OTHER BYTES: whatever 18 bytes ask for a command in tags are the ones that the writer makes of it (§1).
 -- And what is asked is given back: so each command that the panel keeps has one form in tags.
-use Rattle.lighting_levels.specs.Paper.Choice.{if◌then◌else◌}
+use Rattle.lighting_levels.specs.Paper.Choice.{when◌then◌else◌}
 use mathlib.Core.Path.{◌≡◌, refl, sym, ap, ap₂, ◌∙◌}
 use mathlib.Core.Bool.{true, false≢true}
 use mathlib.Core.List.{List, ◌∷◌, []}
@@ -190,7 +190,7 @@ tags_same p f fit known own ranges =
 -- WHATEVER 18 BYTES ask for a command are the writer's
 module _ (p : Parameters) (body : Bytes) (o : Octets body) (eighteen : length body ≡ suc most_tagged) (k : Command) where
   own_body : well_tagged body ≡ true → tagged_request p (read_fields (body_fields body)) ≡ ToOutput (Commands k) → command_tags k ≡ body_fields body
-  unfolding read_fields tagged_request command_tags if◌then◌else◌
+  unfolding read_fields tagged_request command_tags when◌then◌else◌
   own_body w =
       let f = body_fields body in
       by_bool (own_tags (tags_of (operation_of f) (time_of f.duration)) f)
@@ -200,7 +200,7 @@ module _ (p : Parameters) (body : Bytes) (o : Octets body) (eighteen : length bo
       (λ e. rw e (λ h. absurd (refused_never k h)))
 
   pub only_written : tagged_request p (read_body body) ≡ ToOutput (Commands k) → body ≡ body_bytes (command_tags k)
-  unfolding read_body tagged_request if◌then◌else◌
+  unfolding read_body tagged_request when◌then◌else◌
   only_written =
       by_bool (well_tagged body)
       (λ e. rw e (λ h. sym (only_body body o eighteen e) ∙ ap body_bytes (sym (own_body e h))))

@@ -1,6 +1,6 @@
 -- A PLAIN COMMAND'S FIELDS IN TAGS (§1): what they ask is what its frame asks, good fields or bad; and they
 -- hold every byte of it.
-use Rattle.lighting_levels.specs.Paper.Choice.{if◌then◌else◌}
+use Rattle.lighting_levels.specs.Paper.Choice.{when◌then◌else◌}
 use mathlib.Core.Path.{◌≡◌, refl, sym, ap, ap₂, ◌∙◌}
 use mathlib.Core.Bool.{true}
 use mathlib.Core.List.{◌++◌, append-nil, []}
@@ -64,7 +64,7 @@ SameIf action b (some f) = Same action b f
 
 -- its words
 duration_spelled : (d : ℕ) → duration_word (whole_tag (plain_duration d)) ≡ octets 4 d
-unfolding whole_tag plain_duration if◌then◌else◌
+unfolding whole_tag plain_duration when◌then◌else◌
 duration_spelled d = by_eq d 0xffff_ffff (λ p e. rw e (ap (octets 4) (sym p))) (λ p e. rw e)
 
 module _ (b : Bytes) (o : Octets b) where
@@ -101,13 +101,13 @@ module _ (b : Bytes) (o : Octets b) where
         (steps : both_or_neither (tags_of operation NoTime).step step ≡ true)
         (fades : both_or_neither (tags_of operation NoTime).fade (whole_tag fade) ≡ true) where
       fields_own : own_tags (tags_of (operation_of fields) (time_of fields.duration)) fields ≡ true
-      unfolding own_tags tags_of both_or_neither if◌then◌else◌
+      unfolding own_tags tags_of both_or_neither when◌then◌else◌
       fields_own =
           rw
           (named, levels, rates, steps, fades, whole_fewest fade, whole_fewest (plain_duration (big_endian 4 b at)))
 
       fields_asked : (p : Parameters) → tagged_request p (read_fields fields) ≡ command_request p operation (big_endian 4 b at)
-      unfolding tagged_request command_request read_fields if◌then◌else◌
+      unfolding tagged_request command_request read_fields when◌then◌else◌
       fields_asked p = rw (fields_own, named, whole_read (plain_duration (big_endian 4 b at)))
 
     fields_same : (action : Action) → 13 ≤ length b → number ≤ 10 → Fits real_octets level → Fits real_octets rate → Fits real_octets step → Word fade
@@ -154,7 +154,7 @@ module _ (b : Bytes) (o : Octets b) where
   real17 = Holds 4 word17
 
   pub same : (action : Action) → byte_at b 0 ≡ action_byte action → length b ≡ kind_length (action_byte action) → SameIf action b (plain_tags action b)
-  unfolding plain_tags request_of kind_length kind_row operation_of held_by tags_of fields_of real_tag whole_tag both_or_neither field_size if◌then◌else◌
+  unfolding plain_tags request_of kind_length kind_row operation_of held_by tags_of fields_of real_tag whole_tag both_or_neither field_size when◌then◌else◌
   same WritesLevel k l = tt
   same EmptiesSlot k l = tt
   same WritesProperty k l = tt

@@ -1,5 +1,5 @@
 -- What a body in tags asks is in range, or is refused 14 or 15 (§1).
-use Rattle.lighting_levels.specs.Paper.Choice.{if◌then◌else◌}
+use Rattle.lighting_levels.specs.Paper.Choice.{when◌then◌else◌}
 use mathlib.Core.List.{List}
 use Prim.Native.Nat.{ℕ}
 use native.Mathlib.Omega.{arith}
@@ -12,7 +12,7 @@ use Rattle.lighting_outputs.proofs.Rules.RequestInRange.{RequestInRange}
 use Rattle.lighting_outputs.proofs.Rules.CommandRanges.{command_of_good}
 
 fields_good : (p : Parameters) (f : TagFields) → RequestInRange p (tagged_request p (read_fields f))
-unfolding read_fields tagged_request if◌then◌else◌
+unfolding read_fields tagged_request when◌then◌else◌
 fields_good p f =
     by_bool
     (own_tags (tags_of (operation_of f) (time_of f.duration)) f)
@@ -20,6 +20,6 @@ fields_good p f =
     (λ e. rw e (omega arith))
 
 pub tagged_good : (p : Parameters) (body : List ℕ) → RequestInRange p (tagged_request p (read_body body))
-unfolding read_body if◌then◌else◌
+unfolding read_body when◌then◌else◌
 tagged_good p body =
     by_bool (well_tagged body) (λ e. rw e (fields_good p (body_fields body))) (λ e. unfold tagged_request in (rw e (omega arith)))

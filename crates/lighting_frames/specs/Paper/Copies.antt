@@ -3,7 +3,7 @@
 -- panel, which has the list, share no more than this in judging a frame.
 --
 use Rattle.std.specs.Prelude.{Bool, true, false, [], ◌∷◌, eqb}
-use Rattle.lighting_levels.specs.Paper.Choice.{if◌then◌else◌, ◌also◌}
+use Rattle.lighting_levels.specs.Paper.Choice.{when◌then◌else◌, ◌also◌}
 use Rattle.lighting_frames.specs.Paper.Frames.{Bytes}
 use Rattle.lighting_outputs.specs.declared.Answer.{Answer}
 use Rattle.lighting_frames.specs.declared.Verdict.{Verdict}
@@ -17,4 +17,4 @@ same_bytes (a ∷ k) [] = false
 same_bytes (a ∷ k) (b ∷ l) = eqb a b also same_bytes k l
 
 unfoldable pub retransmission_or_conflict : Bool → Answer → Verdict
-retransmission_or_conflict same a = if same then Copied a else TurnedDown 6
+retransmission_or_conflict same a = when same then Copied a else TurnedDown 6

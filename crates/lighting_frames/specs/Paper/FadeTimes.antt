@@ -2,7 +2,7 @@
 -- good or bad. It stands in the field of kind 12, in the value of a write (kind 04) of property 02, and in
 -- tag 4 of a body of kind 1B.
 use Rattle.std.specs.Prelude.{Bool, ℕ, eqb, drop}
-use Rattle.lighting_levels.specs.Paper.Choice.{if◌then◌else◌, ◌also◌}
+use Rattle.lighting_levels.specs.Paper.Choice.{when◌then◌else◌, ◌also◌}
 use Rattle.lighting_levels.specs.Paper.Field.{byte_at, big_endian}
 use Rattle.lighting_outputs.specs.Paper.TimeWithin.{time_within}
 use Rattle.lighting_frames.specs.Paper.Tags.{body_fields, time_of}
@@ -12,9 +12,9 @@ use Rattle.lighting_outputs.specs.declared.TimeField.TheVariants.{Time, NoTime}
 
 unfoldable pub fade_time_in : Bytes → TimeField
 fade_time_in b =
-    if eqb (byte_at b 0) 0x12 then Time (big_endian 4 b 17)
-    else if eqb (byte_at b 0) 0x04 also eqb (byte_at b 13) 0x02 then Time (big_endian 4 b 14)
-    else if eqb (byte_at b 0) 0x1b then time_of (body_fields (drop 13 b)).fade
+    when eqb (byte_at b 0) 0x12 then Time (big_endian 4 b 17)
+    else when eqb (byte_at b 0) 0x04 also eqb (byte_at b 13) 0x02 then Time (big_endian 4 b 14)
+    else when eqb (byte_at b 0) 0x1b then time_of (body_fields (drop 13 b)).fade
     else NoTime
 
 -- a fade time from the one number to the other

@@ -2,7 +2,7 @@
 -- refusals 9 to 12, 14 and 15 (but a read's 9, which `read_property` of Properties.antt gives). Nothing here
 -- looks at a panel but for its number of outputs.
 use Rattle.std.specs.Prelude.{◌≡◌, List, ℕ, ◌<◌, ltb, eqb, Float, length, drop}
-use Rattle.lighting_levels.specs.Paper.Choice.{if◌then◌else◌, Every}
+use Rattle.lighting_levels.specs.Paper.Choice.{when◌then◌else◌, Every}
 use Rattle.lighting_outputs.specs.declared.Parameters.{Parameters}
 use Rattle.lighting_levels.specs.Paper.Level.{real}
 use Rattle.lighting_levels.specs.Paper.Field.{byte_at, big_endian}
@@ -81,8 +81,8 @@ call_of p action b =
 -- 'station over 7, or number 0' is 4, by the set's number of stations (§6); 'output not in the table' is 5
 unfoldable pub called : Parameters → ℕ → Call → Frame
 called p c call =
-    if ltb call.station p.stations
-    then (if eqb call.number 0 then Bad 4 else if ltb call.output c then Calls call else Bad 5)
+    when ltb call.station p.stations
+    then (when eqb call.number 0 then Bad 4 else when ltb call.output c then Calls call else Bad 5)
     else Bad 4
 
 -- 'Kind 01, clock: time (6 bytes)'
@@ -92,8 +92,8 @@ clock_of b = Clock (big_endian 6 b 1)
 -- 'no byte, or unknown kind' is 2, 'wrong length' is 3: `size` is the length that the kind fixes
 unfoldable pub parse_by : Parameters → ℕ → ℕ → Kind → Bytes → Frame
 parse_by p c size NoKind b = Bad 2
-parse_by p c size ClockKind b = if eqb (length b) size then clock_of b else Bad 3
-parse_by p c size (CallKind action) b = if eqb (length b) size then called p c (call_of p action b) else Bad 3
+parse_by p c size ClockKind b = when eqb (length b) size then clock_of b else Bad 3
+parse_by p c size (CallKind action) b = when eqb (length b) size then called p c (call_of p action b) else Bad 3
 
 unfoldable pub parse : Parameters → ℕ → Bytes → Frame
 parse p c b = let row = kind_row (byte_at b 0) in parse_by p c row.length row.kind b

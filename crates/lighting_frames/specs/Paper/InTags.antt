@@ -2,7 +2,7 @@
 -- instead (kind 1B), and what is then asked of lists.
 use Rattle.std.specs.Prelude.{Bool, ◌∷◌, ◌++◌, ℕ, eqb, length, take, drop}
 use Rattle.std.proofs.Math.Option.{Option, none, some}
-use Rattle.lighting_levels.specs.Paper.Choice.{if◌then◌else◌}
+use Rattle.lighting_levels.specs.Paper.Choice.{when◌then◌else◌}
 use Rattle.lighting_levels.specs.Paper.Field.{byte_at, big_endian}
 use Rattle.lighting_frames.specs.Paper.Kinds.{kind_row, kind_length}
 use Rattle.lighting_frames.specs.Paper.Tags.{whole_tag, body_bytes}
@@ -68,9 +68,9 @@ framed_by ClockKind b = b
 framed_by (CallKind action) b = framed b (plain_tags action b)
 
 unfoldable pub in_tags : Bytes → Bytes
-in_tags b = if eqb (length b) (kind_length (byte_at b 0)) then framed_by (kind_row (byte_at b 0)).kind b else b
+in_tags b = when eqb (length b) (kind_length (byte_at b 0)) then framed_by (kind_row (byte_at b 0)).kind b else b
 
 -- 'send any of its commands tagged instead of plain, every copy of a frame like its first': which, the string
 -- of bytes says
 unfoldable pub sent : (Bytes → Bool) → Bytes → Bytes
-sent chosen b = if chosen b then in_tags b else b
+sent chosen b = when chosen b then in_tags b else b

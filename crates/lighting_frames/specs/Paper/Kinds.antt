@@ -1,7 +1,7 @@
 -- THE TABLE OF KINDS: 'The kind byte fixes the length', whether a frame is a call of a station, and what it
 -- asks. A new kind is a row here and a clause of `request_of` (Frames.antt).
 use Rattle.std.specs.Prelude.{Bool, true, false, List, [], ◌∷◌, ℕ, ◌-◌, leb, get_or}
-use Rattle.lighting_levels.specs.Paper.Choice.{if◌then◌else◌}
+use Rattle.lighting_levels.specs.Paper.Choice.{when◌then◌else◌}
 use Rattle.lighting_frames.specs.declared.Action.{Action}
 use Rattle.lighting_frames.specs.declared.Action.TheVariants.{WritesLevel, EmptiesSlot, WritesProperty, ReadsProperty, Stops, FadesTo, FadesToOver, RampsTo, RampsToAtRate, StepsUp, StepsDown, StepsUpBy, StepsDownBy, GoesTo, Relinquishes, CommandsTagged}
 use Rattle.lighting_frames.specs.declared.Kind.{Kind}
@@ -49,7 +49,7 @@ command_rows =
     ∷ []
 
 unfoldable pub kind_row : ℕ → KindRow
-kind_row k = if leb 0x10 k then get_or command_rows (k - 0x10) unknown_row else get_or plain_rows k unknown_row
+kind_row k = when leb 0x10 k then get_or command_rows (k - 0x10) unknown_row else get_or plain_rows k unknown_row
 
 unfoldable pub kind_length : ℕ → ℕ
 kind_length k = (kind_row k).length

@@ -2,7 +2,7 @@
 -- clause 20.2, written and read. The reading is of the form alone, refusals 14 and 15: what is read meets the
 -- ranges of the plain kinds (`command_of`, Frames.antt).
 use Rattle.std.specs.Prelude.{Bool, true, false, List, ◌∷◌, ◌++◌, [], ℕ, suc, ◌+◌, ◌-◌, ◌*◌, leb, ltb, eqb, Float, length, get_or, take, drop, replicate}
-use Rattle.lighting_levels.specs.Paper.Choice.{if◌then◌else◌, ◌also◌, all_from}
+use Rattle.lighting_levels.specs.Paper.Choice.{when◌then◌else◌, ◌also◌, all_from}
 use Rattle.lighting_levels.specs.Paper.Level.{real, bits}
 use Rattle.lighting_levels.specs.Paper.Field.{byte_at, big_endian, octets}
 use Rattle.lighting_outputs.specs.Paper.Rows.{within}
@@ -28,7 +28,7 @@ context_tag number count = number * 16 + 8 + count
 
 -- 'Whole numbers use the fewest octets, 1 to 4'
 unfoldable pub fewest_octets : ℕ → ℕ
-fewest_octets v = if ltb v 0x100 then 1 else if ltb v 0x1_0000 then 2 else if ltb v 0x100_0000 then 3 else 4
+fewest_octets v = when ltb v 0x100 then 1 else when ltb v 0x1_0000 then 2 else when ltb v 0x100_0000 then 3 else 4
 
 -- of how many octets a field's content may be
 pub record OctetRange : Type 0 where
@@ -127,7 +127,7 @@ body_bytes f = length (tag_bytes f) ∷ zero_filled (tag_bytes f)
 unfoldable pub field_in : ℕ → OctetRange → List ℕ → TagField
 field_in number allowed left =
     let count = byte_at left 0 - context_tag number 0 in
-    if within (context_tag number allowed.least) (context_tag number allowed.most) (byte_at left 0) also ltb count (length left)
+    when within (context_tag number allowed.least) (context_tag number allowed.most) (byte_at left 0) also ltb count (length left)
     then Holds count (big_endian count left 1)
     else Missing
 
@@ -218,7 +218,7 @@ own_tags own f =
 -- THE READING of a body: its operation and its duration, or 14, or 15
 unfoldable pub read_fields : TagFields → TaggedReading
 read_fields f =
-    if own_tags (tags_of (operation_of f) (time_of f.duration)) f then Reads (operation_of f) (time_of f.duration) else Unreadable 15
+    when own_tags (tags_of (operation_of f) (time_of f.duration)) f then Reads (operation_of f) (time_of f.duration) else Unreadable 15
 
 unfoldable pub read_body : List ℕ → TaggedReading
-read_body body = if well_tagged body then read_fields (body_fields body) else Unreadable 14
+read_body body = when well_tagged body then read_fields (body_fields body) else Unreadable 14

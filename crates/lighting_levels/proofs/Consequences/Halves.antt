@@ -11,7 +11,7 @@ use lib.Ieee.{Float, up, down}
 use lib.Ieee.Exact.{HasValue}
 use lib.Ieee.Fits.{down_pos}
 use borrow.Author.Tests.{lt-ltb, le-ltb, le-leb, lt-leb, ne_eqb}
-use Rattle.lighting_levels.specs.Paper.Choice.{if◌then◌else◌, ◌also◌}
+use Rattle.lighting_levels.specs.Paper.Choice.{when◌then◌else◌, ◌also◌}
 use Rattle.lighting_levels.specs.declared.Level.{Level}
 use Rattle.lighting_levels.specs.declared.Level.TheVariants.{Units, OutOfRange}
 use Rattle.lighting_levels.specs.Paper.Level.{one_percent, least_level, nearest_to, from_to, level_in, level_of, amount_of, limit_of, units_or, amount_units, level_units}
@@ -35,7 +35,7 @@ module _ (a c m d : ℕ) (C : 0 < c) (D : 0 < d) (same : m * c ≡ a * d) where
   to high = let scaled : a * d ≤ 100 * c * d = mul-le-mul_right d high in le_of_mul-le-mul_right (omega arith) C
 
   rounded : (k : ℕ) → k * c ≤ a * 8 → a ≤ 100 * c → Rounded (from_to k m d) a c
-  unfolding if◌then◌else◌
+  unfolding when◌then◌else◌
   rounded k low high = record {
     units = nearest_to (a * one_percent) c;
     becomes =
@@ -45,7 +45,7 @@ module _ (a c m d : ℕ) (C : 0 < c) (D : 0 < d) (same : m * c ≡ a * d) where
   }
 
   outside : (k : ℕ) → a * 8 < k * c ⊎ 100 * c < a → from_to k m d ≡ OutOfRange
-  unfolding if◌then◌else◌ ◌also◌
+  unfolding when◌then◌else◌ ◌also◌
   outside k (inl low) =
       let scaled : a * 8 * d < k * c * d = mul-lt-mul_of_pos_right low D in
       rw (lt-leb (k * d) (m * 8) (lt_of_mul-lt-mul_right c (omega arith)))
@@ -54,20 +54,20 @@ module _ (a c m d : ℕ) (C : 0 < c) (D : 0 < d) (same : m * c ≡ a * d) where
       rw (lt-leb m (100 * d) (lt_of_mul-lt-mul_right c (omega arith))) (by_bool (leb (k * d) (m * 8)) (λ t. rw t) (λ t. rw t))
 
   level_rounded : c ≤ a → a ≤ 100 * c → Rounded (level_in m d) a c
-  unfolding if◌then◌else◌
+  unfolding when◌then◌else◌
   level_rounded low high =
       let not-below : d ≤ m = omega (arith, from 8 (omega arith)) in
       rw (ne_eqb m 0 (λ z. omega arith), le-ltb m d not-below) (rounded 8 (omega arith) high)
 
   level_outside : 100 * c < a → level_in m d ≡ OutOfRange
-  unfolding if◌then◌else◌
+  unfolding when◌then◌else◌
   level_outside high =
       let scaled : 100 * c * d < a * d = mul-lt-mul_of_pos_right high D in
       let above : 100 * d < m = lt_of_mul-lt-mul_right c (omega arith) in
       rw (ne_eqb m 0 (λ z. omega arith), le-ltb m d (omega arith)) (outside 8 (inr high))
 
   level_raised : 0 < a → a < c → level_in m d ≡ Units least_level
-  unfolding if◌then◌else◌
+  unfolding when◌then◌else◌
   level_raised low high =
       let lowest : 0 * d < a * d = mul-lt-mul_of_pos_right low D in
       let scaled : a * d < c * d = mul-lt-mul_of_pos_right high D in

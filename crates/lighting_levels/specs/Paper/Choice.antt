@@ -1,16 +1,16 @@
 -- Tests. A definition chooses by clauses, or by an `if` that stays shut: a proof about code then reads its
--- parts off a goal, and a proof about the definitions opens `if◌then◌else◌` and computes.
+-- parts off a goal, and a proof about the definitions opens `when◌then◌else◌` and computes.
 use Rattle.std.specs.Prelude.{ℕ, zero, suc, ◌+◌, Bool, true, false, List, [], ◌∷◌}
 
-infix 5 if◌then◌else◌
-unfoldable pub if◌then◌else◌ : {A : Type 0} → Bool → A → A → A
-if◌then◌else◌ true a b = a
-if◌then◌else◌ false a b = b
+infix 5 when◌then◌else◌
+unfoldable pub when◌then◌else◌ : {A : Type 0} → Bool → A → A → A
+when◌then◌else◌ true a b = a
+when◌then◌else◌ false a b = b
 
 -- the one and the other
 infixr 32 ◌also◌
 abbrev pub ◌also◌ : Bool → Bool → Bool
-a also b = if a then b else false
+a also b = when a then b else false
 
 -- each of the n numbers from i on
 unfoldable pub all_from : (ℕ → Bool) → ℕ → ℕ → Bool

@@ -5,7 +5,7 @@ use Prim.Native.Nat.{ℕ, suc, ◌+◌, ◌*◌, ◌/◌, ◌%◌, min, compare,
 use Rattle.std.specs.Prelude.{Bool, true, false, leb, ltb, eqb, Float}
 use Rattle.std.specs.Float.{nan, inf, fin, binary32}
 use Rattle.std.specs.Float.Ieee.{up, down, round, of_bits, to_bits}
-use Rattle.lighting_levels.specs.Paper.Choice.{if◌then◌else◌, ◌also◌}
+use Rattle.lighting_levels.specs.Paper.Choice.{when◌then◌else◌, ◌also◌}
 use Rattle.lighting_levels.specs.declared.Level.{Level}
 use Rattle.lighting_levels.specs.declared.Level.TheVariants.{Units, OutOfRange}
 
@@ -49,17 +49,17 @@ units_in a c = nearest_to (a * one_percent) c
 
 -- a / c from k eighths to 100, in units
 abbrev pub from_to : ℕ → ℕ → ℕ → Level
-from_to k a c = if leb (k * c) (a * 8) also leb a (100 * c) then Units (units_in a c) else OutOfRange
+from_to k a c = when leb (k * c) (a * 8) also leb a (100 * c) then Units (units_in a c) else OutOfRange
 
 -- 'A REAL from 0 to 100 becomes the nearest unit [..]; above 0 and below 1 it becomes 65,536'
 abbrev pub level_in : ℕ → ℕ → Level
-level_in a c = if eqb a 0 then Units 0 else if ltb a c then Units least_level else from_to 8 a c
+level_in a c = when eqb a 0 then Units 0 else when ltb a c then Units least_level else from_to 8 a c
 
 -- 'Minus zero is 0. NaN, infinities, negatives and values above 100 are refused.'
 unfoldable pub level_of : Float → Level
 level_of nan = OutOfRange
 level_of (inf s) = OutOfRange
-level_of (fin true m e) = if eqb (m * up e) 0 then Units 0 else OutOfRange
+level_of (fin true m e) = when eqb (m * up e) 0 then Units 0 else OutOfRange
 level_of (fin false m e) = level_in (m * up e) (down e)
 
 -- 'A level is read out as one division by 65,536': the REAL nearest to n / 65,536. Of a level it is n /

@@ -4,7 +4,7 @@ use mathlib.Core.Bool.{Bool, false}
 use Prim.Native.Nat.{ℕ, ◌≤◌}
 use native.Mathlib.Omega.{arith}
 use Rattle.lighting_outputs.specs.Paper.Parameters.{Parameters}
-use Rattle.lighting_levels.specs.Paper.Choice.{if◌then◌else◌}
+use Rattle.lighting_levels.specs.Paper.Choice.{when◌then◌else◌}
 use Rattle.lighting_outputs.specs.Paper.Relay.{inactive_not_below}
 use Rattle.lighting_outputs.specs.Paper.Properties.{settings_with, relay_with, changed, min_over_max}
 use Rattle.lighting_outputs.specs.Paper.Acting.{done, unchanged, changed_unless, acted}
@@ -28,7 +28,7 @@ pub by_change : (P : Outcome → Type 0) (tenant : Bool) (t : ℕ) (o : Output) 
     → ((r : ℕ) → 9 ≤ r → P (unchanged o (Refused r)))
     → (min_over_max (settings_with o.settings n v) ≡ false → inactive_not_below (relay_with o.relay n v) ≡ false → P (done (changed o n v)))
     → P (acted tenant t o (Change n v))
-unfolding acted changed_unless if◌then◌else◌
+unfolding acted changed_unless when◌then◌else◌
 by_change P tenant t o n v refused taken =
     by_bool
     (min_over_max (settings_with o.settings n v))

@@ -5,7 +5,7 @@ use mathlib.Core.Bool.{Bool}
 use mathlib.Core.Option.{Option, none, some}
 use Prim.Native.Nat.{ℕ}
 use native.Mathlib.Omega.{arith}
-use Rattle.lighting_levels.specs.Paper.Choice.{if◌then◌else◌}
+use Rattle.lighting_levels.specs.Paper.Choice.{when◌then◌else◌}
 use Rattle.lighting_levels.proofs.Split.{by_bool}
 use Rattle.lighting_outputs.specs.Paper.Slots.{Slots, slot}
 use Rattle.lighting_outputs.proofs.AnswersApart.{refusal_of}
@@ -60,7 +60,7 @@ slot_none s i = by (slot s i)
     by (some v) = unfold level_or_absent level_answer in refl
 
 read_property_not_one : (tenant : Bool) (t : ℕ) (o : Output) (n : Property) → NotOne (read_property tenant t o n)
-unfolding read_property level_answer real_answer if◌then◌else◌
+unfolding read_property level_answer real_answer when◌then◌else◌
 read_property_not_one tenant t o RelinquishDefault = not_one (read_property tenant t o RelinquishDefault) refl
 read_property_not_one tenant t o FadeTime = not_one (read_property tenant t o FadeTime) refl
 read_property_not_one tenant t o RampRate = not_one (read_property tenant t o RampRate) refl

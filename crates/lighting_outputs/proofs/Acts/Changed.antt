@@ -6,7 +6,7 @@ use native.Mathlib.Nat.{mod-eq_of_lt}
 use native.Mathlib.Omega.{arith}
 use lib.Ieee.{Float}
 use lib.ListN.{length}
-use Rattle.lighting_levels.specs.Paper.Choice.{if◌then◌else◌}
+use Rattle.lighting_levels.specs.Paper.Choice.{when◌then◌else◌}
 use Rattle.lighting_outputs.specs.Paper.Parameters.{Parameters}
 use Rattle.lighting_levels.specs.Paper.Level.{real}
 use Rattle.lighting_outputs.specs.Paper.Slots.{slot_count, Slots, winning_level}
@@ -30,12 +30,12 @@ use Rattle.lighting_outputs.proofs.Rules.Rows.{same_row, kept_met}
 
 -- a REAL, and a slot in its byte
 real_kept : (p : Parameters) (field n : Property) (v : ℕ) (old : Float) → row_of p field ≡ Amount → Meets (row_of p n) v → is_amount old ≡ true
-    → is_amount (if same field n then real v else old) ≡ true
-unfolding if◌then◌else◌
+    → is_amount (when same field n then real v else old) ≡ true
+unfolding when◌then◌else◌
 real_kept p field n v old r g h = by_bool (same field n) (λ e. rw e (rw (sym (same_row p field n e) ∙ r) at g)) (λ e. rw e h)
 
-slot_kept : (p : Parameters) (n : Property) (v old : ℕ) → Meets (row_of p n) v → Slot old → Slot (if same CommandPriority n then v % 256 else old)
-unfolding if◌then◌else◌
+slot_kept : (p : Parameters) (n : Property) (v old : ℕ) → Meets (row_of p n) v → Slot old → Slot (when same CommandPriority n then v % 256 else old)
+unfolding when◌then◌else◌
 slot_kept p n v old g h =
     by_bool
     (same CommandPriority n)
@@ -101,7 +101,7 @@ same_acts p t c c' s (Warned w) l z q h = h
 -- Min and Max change in a write of their own, which ends a movement
 acts_kept : (p : Parameters) (t : ℕ) (c : Settings) (s : Slots) (a : Activity) (n : Property) (v : ℕ) → length s.levels ≡ slot_count → Acts p t c s a
     → Acts p t (settings_with c n v) s (activity_with a n)
-unfolding activity_with if◌then◌else◌
+unfolding activity_with when◌then◌else◌
 acts_kept p t c s a n v l h =
     by_bool
     (same MinValue n)
@@ -112,7 +112,7 @@ acts_kept p t c s a n v l h =
     (λ e'. rw (e, e') (same_acts p t c (settings_with c n v) s a l (unfold settings_with in rw e) (unfold settings_with in rw e') h)))
 
 burning_le : (b : ℕ) (n : Property) → burning_with b n ≤ b
-unfolding burning_with if◌then◌else◌
+unfolding burning_with when◌then◌else◌
 burning_le b n = by_bool (same ElapsedActiveTime n) (λ e. rw e (omega arith)) (λ e. rw e (omega arith))
 
 pub changed_sound : (p : Parameters) (t : ℕ) (o : Output) (n : Property) (v : ℕ) → Meets (row_of p n) v → min_over_max (settings_with o.settings n v) ≡ false

@@ -7,7 +7,7 @@ use Prim.Native.Nat.{ℕ, ◌≤◌, ◌<◌, min, max}
 use native.Mathlib.Omega.{arith}
 use lib.Ieee.{Float}
 use Rattle.lighting_outputs.specs.Paper.Parameters.{Parameters, longest_movement}
-use Rattle.lighting_levels.specs.Paper.Choice.{if◌then◌else◌}
+use Rattle.lighting_levels.specs.Paper.Choice.{when◌then◌else◌}
 use Rattle.lighting_levels.specs.Paper.Level.{level_units, amount_units, distance}
 use Rattle.lighting_outputs.specs.Paper.Slots.{slot6, Slots, is_live, winner, put, filled}
 use Rattle.lighting_outputs.specs.Paper.Value.{clamp_lit, present_value, progress_value}
@@ -88,7 +88,7 @@ module _ (p : Parameters) (t : ℕ) (c : Settings) (k : SettingsInRange p c) (s 
   -- if it wins, the new activity has to fit the new slots
   placed_staged : (g : ℕ) (new : Activity) → IsLevel g → (winner (filled s c.slot g) ≡ c.slot → Acts p t c (filled s c.slot g) new)
       → Staged p t c (placed s a c.slot g new)
-  unfolding placed replaced if◌then◌else◌
+  unfolding placed replaced when◌then◌else◌
   placed_staged g new l fit =
       record {
         slots = put_filled s c.slot (some g) f k.slot.inside l;
@@ -107,7 +107,7 @@ module _ (p : Parameters) (t : ℕ) (c : Settings) (k : SettingsInRange p c) (s 
   -- a movement from b to a target that Min..Max leave as it is
   moved_staged : (b g l : ℕ) (pace : Pace) → b ≤ c.max → IsLevel g → clamp_lit c g ≡ g → (b ≢ g → Within 1 (longest_movement p) l)
       → Staged p t c (placed s a c.slot g (movement t c.slot b g l pace))
-  unfolding movement present_value if◌then◌else◌
+  unfolding movement present_value when◌then◌else◌
   moved_staged b g l pace m v same long =
       placed_staged
       g
@@ -132,7 +132,7 @@ module _ (p : Parameters) (t : ℕ) (c : Settings) (k : SettingsInRange p c) (s 
       })))
 
   stopped_staged : (b : ℕ) → b ≤ c.max → Staged p t c (stopped c b s a)
-  unfolding stopped halted if◌then◌else◌
+  unfolding stopped halted when◌then◌else◌
   stopped_staged b m = go a h
     where
       raised_level : IsLevel (raised c b)
@@ -179,7 +179,7 @@ module _ (p : Parameters) (t : ℕ) (c : Settings) (k : SettingsInRange p c) (s 
   up_level b x y = record { least = omega (arith, k.min, k.order); most = omega (arith, k.max) }
 
   down_level : (b x : ℕ) → IsLevel (step_down_from c b x)
-  unfolding step_down_from if◌then◌else◌
+  unfolding step_down_from when◌then◌else◌
   down_level b x =
       by_eq b 0 (λ y e. rw e level_zero)
       (λ y e. rw e (record { least = omega (arith, k.min, k.order); most = omega (arith, k.max) }))

@@ -6,7 +6,7 @@ use Prim.Native.Nat.{ℕ, suc, ◌+◌, ◌-◌, ◌*◌, ◌/◌, ◌≤◌, �
 use native.Mathlib.Nat.{div-lt_iff_lt-mul}
 use native.Mathlib.Omega.{arith}
 use Rattle.lighting_outputs.specs.Paper.Parameters.{Parameters, longest_movement}
-use Rattle.lighting_levels.specs.Paper.Choice.{if◌then◌else◌}
+use Rattle.lighting_levels.specs.Paper.Choice.{when◌then◌else◌}
 use Rattle.lighting_outputs.specs.Paper.Slots.{Slots, winning_level}
 use Rattle.lighting_outputs.specs.Paper.Value.{clamp_lit, present_value, elapsed, reached_by, reached, progress_by, progress_value}
 use Rattle.lighting_outputs.specs.Paper.Commands.{ramp_length}
@@ -22,24 +22,24 @@ use Rattle.lighting_levels.specs.Paper.Level.{greatest_level, least_amount}
 
 -- BROUGHT INTO Min..Max: at most Max, and once is enough
 pub clamp_lit_most : (c : Settings) (v : ℕ) → clamp_lit c v ≤ c.max
-unfolding clamp_lit if◌then◌else◌
+unfolding clamp_lit when◌then◌else◌
 clamp_lit_most c v = by_eq v 0 (λ z e. rw e (omega arith)) (λ z e. rw e (omega arith))
 
 -- a level that is 0 or in the range is left as it is
 pub clamp_lit_same : (c : Settings) (v : ℕ) → (v ≢ 0 → (c.min ≤ v) × (v ≤ c.max)) → clamp_lit c v ≡ v
-unfolding clamp_lit if◌then◌else◌
+unfolding clamp_lit when◌then◌else◌
 clamp_lit_same c v f = by_eq v 0 (λ z e. rw (e, z)) (λ z e. let r = f z in rw e (omega arith))
 
 pub clamp_lit_clamp_lit : (p : Parameters) (c : Settings) (v : ℕ) → SettingsInRange p c → clamp_lit c (clamp_lit c v) ≡ clamp_lit c v
 clamp_lit_clamp_lit p c v h = clamp_lit_same c (clamp_lit c v) inside
   where
     inside : clamp_lit c v ≢ 0 → (c.min ≤ clamp_lit c v) × (clamp_lit c v ≤ c.max)
-    inside = unfold clamp_lit if◌then◌else◌ in
+    inside = unfold clamp_lit when◌then◌else◌ in
         (by_eq v 0 (λ z e. rw e (λ n. absurd (n refl))) (λ z e. rw e (λ n. omega (arith, h.order))))
 
 -- A MOVEMENT stays at most at Max
 reached_most : (p : Parameters) (t : ℕ) (c : Settings) (s : Slots) (m : Movement) → Moves p t c s m → reached t m ≤ c.max
-unfolding reached reached_by present_value if◌then◌else◌
+unfolding reached reached_by present_value when◌then◌else◌
 reached_most p t c s m h =
     by_le
     m.start

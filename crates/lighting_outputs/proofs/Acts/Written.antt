@@ -6,7 +6,7 @@ use Prim.Native.Nat.{ℕ, ◌+◌, ◌<◌}
 use native.Mathlib.Omega.{arith}
 use lib.ListN.{length}
 use Rattle.lighting_outputs.specs.Paper.Parameters.{Parameters}
-use Rattle.lighting_levels.specs.Paper.Choice.{if◌then◌else◌}
+use Rattle.lighting_levels.specs.Paper.Choice.{when◌then◌else◌}
 use Rattle.lighting_levels.proofs.Split.{by_eq, by_lt, by_bool, parts}
 use Rattle.lighting_outputs.specs.declared.Settings.{Settings}
 use Rattle.lighting_outputs.specs.declared.Movement.{Movement}
@@ -44,7 +44,7 @@ module _ (p : Parameters) (t : ℕ) (c : Settings) (s : Slots) (size : length s.
 
   -- WARNINGS ASIDE: a movement goes on if the slot is above its owner's number, else it ends
   passed_acts : (x : Option ℕ) (a : Activity) → Acts p t c s a → Acts p t c (put s i x) (end_movement_unless_above i a)
-  unfolding end_movement_unless_above if◌then◌else◌
+  unfolding end_movement_unless_above when◌then◌else◌
   passed_acts x Still h = six_kept s size i x slot.inside slot.free ∙ h
   passed_acts x (Moving m) h =
       by_lt
@@ -65,7 +65,7 @@ module _ (p : Parameters) (t : ℕ) (c : Settings) (s : Slots) (size : length s.
   dead_acts (Warned w) e h = let k = six_kept s size i none slot.inside slot.free in search
 
   slot_relinquished_acts : (a : Activity) → Acts p t c s a → Acts p t c (put s i none) (activity_relinquished (is_live s i) i a)
-  unfolding activity_relinquished if◌then◌else◌
+  unfolding activity_relinquished when◌then◌else◌
   slot_relinquished_acts a h = by_bool (is_live s i) (λ e. rw e (passed_acts none a h)) (λ e. rw e (dead_acts a e h))
 
 stored_sound : (p : Parameters) (t : ℕ) (o : Output) (i v : ℕ) → Slot i → IsLevel v → Sound p t o → Sound p t (stored o i v)
@@ -77,12 +77,12 @@ stored_sound p t o i v g l h =
 
 -- A WARNING STARTS
 first_level_lem : (c : Settings) (y : ℕ) → IsLevel y → IsLevel (first_level c y)
-unfolding first_level if◌then◌else◌
+unfolding first_level when◌then◌else◌
 first_level_lem c y l = by_eq c.blink 0 (λ z e. rw e l) (λ z e. rw e level_zero)
 
 first_acts : (p : Parameters) (t : ℕ) (c : Settings) (s : Slots) (x y : ℕ) → Slot x → slot6 < x → 0 < c.blink + c.delay → IsLevel y → is_live s slot6 ≡ true
     → Acts p t c s (Warned (warning_from t c x y))
-unfolding warning_from first_phase phase_end if◌then◌else◌
+unfolding warning_from first_phase phase_end when◌then◌else◌
 first_acts p t c s x y g l b v k =
     let w : Within 6 15 x = omega (arith, g.inside) in
     by_eq c.blink 0 (λ z e. rw e (search arith)) (λ z e. rw e (search arith))
@@ -111,7 +111,7 @@ ended_sound p t o i x g l h =
     (six_kept (emptied o.slots slot6) f.size i x g.inside g.free ∙ six_set o.slots h.slots.size none)
 
 warned_written : (p : Parameters) (t : ℕ) (o : Output) (i v : ℕ) → Slot i → IsLevel v → Sound p t o → Sound p t (written_warned o i v)
-unfolding written_warned ended_empty ended_stored if◌then◌else◌
+unfolding written_warned ended_empty ended_stored when◌then◌else◌
 warned_written p t o i v g l h =
     by_eq
     v
@@ -125,7 +125,7 @@ warned_written p t o i v g l h =
 
 -- KIND 02
 calm_written : (p : Parameters) (t : ℕ) (o : Output) (i v : ℕ) → Slot i → IsLevel v → Sound p t o → Sound p t (written_calm t o i v)
-unfolding written_calm written_zero if◌then◌else◌
+unfolding written_calm written_zero when◌then◌else◌
 calm_written p t o i v g l h =
     by_eq
     v

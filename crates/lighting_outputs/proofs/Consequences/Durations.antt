@@ -8,7 +8,7 @@ use Prim.Native.Nat.{ℕ, zero, suc, ◌+◌, ◌≤◌, ◌<◌}
 use native.Mathlib.Omega.{arith}
 use lib.Dec.{eqb, leb, ltb}
 use lib.ListN.{length}
-use Rattle.lighting_levels.specs.Paper.Choice.{if◌then◌else◌}
+use Rattle.lighting_levels.specs.Paper.Choice.{when◌then◌else◌}
 use Rattle.lighting_outputs.specs.Paper.Parameters.{Parameters}
 use Rattle.lighting_outputs.specs.Paper.Slots.{slot_count, slot6, Slots, slot, is_live, put, emptied}
 use Rattle.lighting_outputs.specs.Paper.Record.{with_burning, with_effect, with_settings, with_command}
@@ -85,14 +85,14 @@ unfolding with_effect
 effect_rest o s a = record { settings = refl; timer = refl; burning = refl; last = refl; relay = refl }
 
 calm_rest : (t : ℕ) (o : Output) (i v : ℕ) → Rest o (written_calm t o i v)
-unfolding written_calm written_zero stored warned warned_by if◌then◌else◌
+unfolding written_calm written_zero stored warned warned_by when◌then◌else◌
 calm_rest t o i v =
     by_bool (eqb v 0)
     (λ e. rw e (by_bool (warns o.settings o.slots i) (λ e'. rw e' (effect_rest o _ _)) (λ e'. rw e' (effect_rest o _ _))))
     (λ e. rw e (effect_rest o _ _))
 
 warned_rest : (o : Output) (i v : ℕ) → Rest o (written_warned o i v)
-unfolding written_warned ended_empty ended_stored if◌then◌else◌
+unfolding written_warned ended_empty ended_stored when◌then◌else◌
 warned_rest o i v =
     by_bool (eqb v 0)
     (λ e. rw e (by_bool (ltb slot6 i) (λ e'. rw e' (effect_rest o _ _)) (λ e'. rw e' (effect_rest o _ _))))
@@ -120,7 +120,7 @@ acted_timer tenant t o (Commands k) n = elim n [ ]
 
 -- UNTIL ITS MOMENT it runs on
 tick_timer : (t q d : ℕ) (o : Output) → o.timer ≡ Running q d → suc t < d → (tick t o).timer ≡ Running q d
-unfolding tick fire after_events with_burned with_burning timer_due is_due timer_at if◌then◌else◌
+unfolding tick fire after_events with_burned with_burning timer_due is_due timer_at when◌then◌else◌
 tick_timer t q d o e h = rw (e, eqb_miss {a = d} {b = suc t} (omega arith))
 
 pub runs_on : (p : Parameters) {t t' : ℕ} {o o' : Output} (q d : ℕ) → Life p t o t' o' → o.timer ≡ Running q d → t' < d → o'.timer ≡ Running q d
@@ -130,7 +130,7 @@ runs_on p q d (request {t = t} {o = o} tenant r g n l) e h = runs_on p q d l (ac
 
 -- one that was cancelled does not come back
 tick_off : (t : ℕ) (o : Output) → o.timer ≡ Off → (tick t o).timer ≡ Off
-unfolding tick fire after_events with_burned with_burning timer_due is_due timer_at if◌then◌else◌
+unfolding tick fire after_events with_burned with_burning timer_due is_due timer_at when◌then◌else◌
 tick_off t o e = rw e
 
 pub stays_off : (p : Parameters) {t t' : ℕ} {o o' : Output} → Life p t o t' o' → o.timer ≡ Off → o'.timer ≡ Off
@@ -150,14 +150,14 @@ owned p t o (Moving m) h = tt
 owned p t o (Warned w) h = omega (arith, h.owner)
 
 end_movement_of_owned : (q : ℕ) (a : Activity) → Owned a → Owned (end_movement_of q a)
-unfolding end_movement_of if◌then◌else◌
+unfolding end_movement_of when◌then◌else◌
 end_movement_of_owned q Still h = tt
 end_movement_of_owned q (Moving m) h = by_bool (eqb m.owner q) (λ e. rw e tt) (λ e. rw e tt)
 end_movement_of_owned q (Warned w) h = h
 
 -- AT ITS MOMENT its slot is empty, whatever a warning does at the same moment
 slots_none : (t q : ℕ) (a : Activity) (s : Slots) → length s.levels ≡ slot_count → q < slot_count → q ≢ slot6 → Owned a → slot s q ≡ none → slot (slots_at t a s) q ≡ none
-unfolding slots_at if◌then◌else◌
+unfolding slots_at when◌then◌else◌
 slots_none t q a s z k n w h = by_bool (is_due t (activity_due a)) (λ e. rw e (next a w)) (λ e. rw e h)
   where
     phase : (x : Warning) (y : Phase) → x.owner < slot_count → slot (phase_slots x y s) q ≡ none
@@ -176,7 +176,7 @@ slots_none t q a s z k n w h = by_bool (is_due t (activity_due a)) (λ e. rw e (
     next (Warned x) l = unfold next_slots in (phase x x.phase l)
 
 pub expires : (p : Parameters) (t q : ℕ) (o : Output) → Sound p t o → o.timer ≡ Running q (suc t) → (slot (tick t o).slots q ≡ none) × ((tick t o).timer ≡ Off)
-unfolding tick fire after_events with_burned with_burning timer_due is_due emptied_by expired end_movement_by end_movement_on_expiry timer_at if◌then◌else◌
+unfolding tick fire after_events with_burned with_burning timer_due is_due emptied_by expired end_movement_by end_movement_on_expiry timer_at when◌then◌else◌
 expires p t q o h e =
     let k : Slot q = (subst (λ (z : Timer). Timed t z) e h.timer).0 in
     rw (e, eqb_hit {a = suc t} {b = suc t} refl) (
@@ -188,12 +188,12 @@ expires p t q o h e =
 
 -- '(ending a movement that slot owned)', and no other
 pub expires_own : (t q : ℕ) (o : Output) (m : Movement) → o.timer ≡ Running q (suc t) → o.activity ≡ Moving m → m.owner ≡ q → (tick t o).activity ≡ Still
-unfolding tick fire after_events with_burned with_burning timer_due activity_due is_due end_movement_by end_movement_on_expiry end_movement_of next_activity activity_at if◌then◌else◌
+unfolding tick fire after_events with_burned with_burning timer_due activity_due is_due end_movement_by end_movement_on_expiry end_movement_of next_activity activity_at when◌then◌else◌
 expires_own t q o m e f w = rw (e, f, eqb_hit {a = suc t} {b = suc t} refl, eqb_hit {a = m.owner} {b = q} w)
 
 pub expires_other : (t q : ℕ) (o : Output) (m : Movement) → o.timer ≡ Running q (suc t) → o.activity ≡ Moving m → m.owner ≢ q → suc t < m.over
     → (tick t o).activity ≡ Moving m
-unfolding tick fire after_events with_burned with_burning timer_due activity_due is_due end_movement_by end_movement_on_expiry end_movement_of next_activity activity_at if◌then◌else◌
+unfolding tick fire after_events with_burned with_burning timer_due activity_due is_due end_movement_by end_movement_on_expiry end_movement_of next_activity activity_at when◌then◌else◌
 expires_other t q o m e f w l =
     rw (e, f, eqb_hit {a = suc t} {b = suc t} refl, eqb_miss {a = m.owner} {b = q} w, eqb_miss {a = m.over} {b = suc t} (omega arith))
 
@@ -210,7 +210,7 @@ put_alike s z q j i x k n w =
 
 slots_alike : (t q j : ℕ) (a : Activity) (s : Slots) → length s.levels ≡ slot_count → q < slot_count → q ≢ j → Owned a
     → slot (slots_at t a (emptied s q)) j ≡ slot (slots_at t a s) j
-unfolding slots_at if◌then◌else◌
+unfolding slots_at when◌then◌else◌
 slots_alike t q j a s z k n w = by_bool (is_due t (activity_due a)) (λ e. rw e (next a w)) (λ e. rw e (slot_other s z q j none k n))
   where
     phase : (x : Warning) (y : Phase) → x.owner < slot_count → slot (phase_slots x y (emptied s q)) j ≡ slot (phase_slots x y s) j
@@ -234,12 +234,12 @@ slots_alike t q j a s z k n w = by_bool (is_due t (activity_due a)) (λ e. rw e 
 
 -- a movement's end touches no slot
 moving_slots : (d : ℕ) (m : Movement) (s : Slots) → slots_at d (Moving m) s ≡ s
-unfolding slots_at next_slots if◌then◌else◌
+unfolding slots_at next_slots when◌then◌else◌
 moving_slots d m s = by_bool (is_due d (activity_due (Moving m))) (λ e. rw e) (λ e. rw e)
 
 pub expires_alone : (p : Parameters) (t q : ℕ) (o : Output) → Sound p t o → o.timer ≡ Running q (suc t) → (j : ℕ) → q ≢ j
     → slot (tick t o).slots j ≡ slot (tick t (untimed o)).slots j
-unfolding tick fire after_events with_burned with_burning timer_due is_due emptied_by expired end_movement_by end_movement_on_expiry if◌then◌else◌
+unfolding tick fire after_events with_burned with_burning timer_due is_due emptied_by expired end_movement_by end_movement_on_expiry when◌then◌else◌
 expires_alone p t q o h e j n =
     let k : Slot q = (subst (λ (z : Timer). Timed t z) e h.timer).0 in
     rw (e, eqb_hit {a = suc t} {b = suc t} refl)
@@ -248,16 +248,16 @@ expires_alone p t q o h e j n =
   where
     end_movement_of_slots : (d q j : ℕ) (a : Activity) → slot (slots_at d (end_movement_of q a) (emptied o.slots q)) j ≡ slot (slots_at d a (emptied o.slots q)) j
     end_movement_of_slots d q j Still = unfold end_movement_of in refl
-    end_movement_of_slots d q j (Moving m) = unfold end_movement_of if◌then◌else◌ in
+    end_movement_of_slots d q j (Moving m) = unfold end_movement_of when◌then◌else◌ in
         (by_bool
         (eqb m.owner q)
-        (λ f. rw (f, moving_slots d m (emptied o.slots q)) (unfold slots_at activity_due is_due if◌then◌else◌ in refl))
+        (λ f. rw (f, moving_slots d m (emptied o.slots q)) (unfold slots_at activity_due is_due when◌then◌else◌ in refl))
         (λ f. rw f))
     end_movement_of_slots d q j (Warned w) = unfold end_movement_of in refl
 
 pub expires_warned : (p : Parameters) (t q : ℕ) (o : Output) → Sound p t o → o.timer ≡ Running q (suc t) → is_live o.slots slot6 ≡ true
     → (tick t o).activity ≡ (tick t (untimed o)).activity
-unfolding tick fire after_events with_burned with_burning timer_due is_due end_movement_by end_movement_on_expiry if◌then◌else◌
+unfolding tick fire after_events with_burned with_burning timer_due is_due end_movement_by end_movement_on_expiry when◌then◌else◌
 expires_warned p t q o h e l = rw (e, eqb_hit {a = suc t} {b = suc t} refl) (go o.activity h.activity)
   where
     go : (a : Activity) → Acts p t o.settings o.slots a → activity_at (suc t) (end_movement_of q a) ≡ activity_at (suc t) a
@@ -268,7 +268,7 @@ expires_warned p t q o h e l = rw (e, eqb_hit {a = suc t} {b = suc t} refl) (go 
 -- AND NOT BEFORE: until then the passing of time changes no slot (a warning's phases aside, during which slot
 -- 6 is live)
 calm_slots : (p : Parameters) (t d : ℕ) (o : Output) (a : Activity) → Acts p t o.settings o.slots a → is_live o.slots slot6 ≡ false → slots_at d a o.slots ≡ o.slots
-unfolding slots_at next_slots activity_due is_due if◌then◌else◌
+unfolding slots_at next_slots activity_due is_due when◌then◌else◌
 calm_slots p t d o Still h e = refl
 calm_slots p t d o (Moving m) h e = moving_slots d m o.slots
 calm_slots p t d o (Warned w) h e = absurd (true≢false (sym h.six ∙ e))
@@ -290,14 +290,14 @@ not_before p (suc n) t o h e a =
 
 -- A COMMAND WHOSE OTHER FIELDS ARE IN RANGE, which are checked before it, is judged by its duration field
 pub in_range_lem : (p : Parameters) (k : Operation) (d : ℕ) → fields_refusal p (fields_of k) ≡ 0 → command_request p k d ≡ command_with_duration p k (plain_duration d)
-unfolding command_request command_of command_request_by if◌then◌else◌
+unfolding command_request command_of command_request_by when◌then◌else◌
 in_range_lem p k d e = rw e
 
 -- A COMMAND'S DURATION FIELD d, of an output that keeps the rules. 100 to the longest duration: whatever
 -- comes but a command, the slot is empty d ms later
 pub duration_lasts : (p : Parameters) → startable p ≡ true → (t d : ℕ) (o : Output) (k : Operation) → 100 ≤ d → d ≤ p.duration
     → (alone t o (command_with_duration p k (plain_duration d))).output.timer ≡ Running o.settings.slot (t + d)
-unfolding acted served done after_events plain_duration command_with_duration command_lasting within commanded commanded_from with_command timed if◌then◌else◌
+unfolding acted served done after_events plain_duration command_with_duration command_lasting within commanded commanded_from with_command timed when◌then◌else◌
 duration_lasts p allowed t d o k h m =
     rw (eqb_miss {a = d} {b = 0xffff_ffff} (omega (arith, (startable_of p allowed).duration)), eqb_miss {a = d} {b = 0} (omega arith), leb_yes {a = 100} {b = d} h, leb_yes {a = d} {b = p.duration} m)
 
@@ -314,19 +314,19 @@ pub duration_cancels : (p : Parameters) {t t' : ℕ} {o' : Output} (o : Output) 
 duration_cancels p {t} o k l = stays_off p l off
   where
     off : (alone t o (command_with_duration p k (plain_duration 0))).output.timer ≡ Off
-    off = unfold acted served done after_events plain_duration command_with_duration command_lasting commanded commanded_from with_command timed if◌then◌else◌ in refl
+    off = unfold acted served done after_events plain_duration command_with_duration command_lasting commanded commanded_from with_command timed when◌then◌else◌ in refl
 
 -- FFFFFFFF leaves it
 pub duration_absent : (p : Parameters) (t : ℕ) (o : Output) (k : Operation) → (alone t o (command_with_duration p k (plain_duration 0xffff_ffff))).output.timer ≡ o.timer
-unfolding acted served done after_events plain_duration command_with_duration command_lasting commanded commanded_from with_command timed if◌then◌else◌
+unfolding acted served done after_events plain_duration command_with_duration command_lasting commanded commanded_from with_command timed when◌then◌else◌
 duration_absent p t o k = refl
 
 -- any other is refused: 1 to 99, and above the longest
 pub duration_low : (p : Parameters) (d : ℕ) (k : Operation) → 0 < d → d < 100 → command_with_duration p k (plain_duration d) ≡ Refuse 12
-unfolding plain_duration command_with_duration command_lasting within if◌then◌else◌
+unfolding plain_duration command_with_duration command_lasting within when◌then◌else◌
 duration_low p d k h m = rw (eqb_miss {a = d} {b = 0xffff_ffff} (omega arith), eqb_miss {a = d} {b = 0} (omega arith), leb_no {a = 100} {b = d} m)
 
 pub duration_high : (p : Parameters) (d : ℕ) (k : Operation) → p.duration < d → d ≢ 0xffff_ffff → command_with_duration p k (plain_duration d) ≡ Refuse 12
-unfolding plain_duration command_with_duration command_lasting within if◌then◌else◌
+unfolding plain_duration command_with_duration command_lasting within when◌then◌else◌
 duration_high p d k h n =
     rw (eqb_miss {a = d} {b = 0xffff_ffff} n, eqb_miss {a = d} {b = 0} (omega arith), leb_no {a = d} {b = p.duration} h) (by_bool (leb 100 d) (λ e. rw e) (λ e. rw e))

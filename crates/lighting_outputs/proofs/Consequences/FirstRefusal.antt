@@ -10,7 +10,7 @@ use native.Mathlib.Omega.{arith}
 use lib.Dec.{leb}
 use lib.ListN.{replicate}
 use lib.Ieee.{Float}
-use Rattle.lighting_levels.specs.Paper.Choice.{if◌then◌else◌}
+use Rattle.lighting_levels.specs.Paper.Choice.{when◌then◌else◌}
 use Rattle.lighting_outputs.specs.Paper.Parameters.{Parameters}
 use Rattle.lighting_levels.specs.Paper.Level.{level_of, amount_of}
 use Rattle.lighting_outputs.specs.Paper.Rows.{within, meets}
@@ -29,7 +29,7 @@ abbrev pub OutOf : ℕ → ℕ → ℕ → Type 0
 OutOf low high n = n < low ⊎ high < n
 
 out_of : (low high n : ℕ) → OutOf low high n → within low high n ≡ false
-unfolding within if◌then◌else◌
+unfolding within when◌then◌else◌
 out_of low high n (inl less) = rw (leb_no {a = low} {b = n} less)
 out_of low high n (inr more) = rw (leb_no {a = n} {b = high} more) (by_bool (leb low n) (λ test. rw test) (λ test. rw test))
 
@@ -39,26 +39,26 @@ module _ (p : Parameters) where
     pub level_first : (level rate : Float) (fade : ℕ) → level_of level ≡ OutOfRange
         → map (λ (operation : Operation). command_of p operation duration) (FadeTo level ∷ FadeToOver level fade ∷ RampTo level ∷ RampToAtRate level rate ∷ Goto level ∷ [])
         ≡ replicate 5 (Refuse 11)
-    unfolding command_of command_request_by fields_refusal fields_of level_field_refusal first_refusal if◌then◌else◌
+    unfolding command_of command_request_by fields_refusal fields_of level_field_refusal first_refusal when◌then◌else◌
     level_first level rate fade out = rw out
 
     pub rate_before_duration : (level rate : Float) (v : ℕ) → level_of level ≡ Units v → amount_of rate ≡ OutOfRange
         → command_of p (RampToAtRate level rate) duration ≡ Refuse 11
-    unfolding command_of command_request_by fields_refusal fields_of level_field_refusal amount_field_refusal first_refusal if◌then◌else◌
+    unfolding command_of command_request_by fields_refusal fields_of level_field_refusal amount_field_refusal first_refusal when◌then◌else◌
     rate_before_duration level rate v good out = rw (good, out)
 
     pub step_before_duration : (step : Float) → amount_of step ≡ OutOfRange
         → map (λ (operation : Operation). command_of p operation duration) (StepUpBy step ∷ StepDownBy step ∷ []) ≡ Refuse 11 ∷ Refuse 11 ∷ []
-    unfolding command_of command_request_by fields_refusal fields_of level_field_refusal amount_field_refusal first_refusal if◌then◌else◌
+    unfolding command_of command_request_by fields_refusal fields_of level_field_refusal amount_field_refusal first_refusal when◌then◌else◌
     step_before_duration step out = rw out
 
     pub fade_after_level : (level : Float) (v fade : ℕ) → level_of level ≡ Units v → OutOf 100 p.fade fade
         → command_of p (FadeToOver level fade) duration ≡ Refuse 12
-    unfolding command_of command_request_by fields_refusal fields_of level_field_refusal amount_field_refusal time_field_refusal meets first_refusal if◌then◌else◌
+    unfolding command_of command_request_by fields_refusal fields_of level_field_refusal amount_field_refusal time_field_refusal meets first_refusal when◌then◌else◌
     fade_after_level level v fade good out = rw (good, out_of 100 p.fade fade out)
 
   -- THE DURATION LAST: the fields are in range
   pub duration_last : (operation : Operation) (d : ℕ) → fields_refusal p (fields_of operation) ≡ 0 → 0 < d → OutOf 100 p.duration d
       → command_of p operation (Time d) ≡ Refuse 12
-  unfolding command_of command_request_by command_with_duration command_lasting if◌then◌else◌
+  unfolding command_of command_request_by command_with_duration command_lasting when◌then◌else◌
   duration_last operation d good above out = rw (good, eqb_miss {a = d} {b = 0} (λ none. omega arith), out_of 100 p.duration d out)

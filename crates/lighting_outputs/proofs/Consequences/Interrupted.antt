@@ -8,7 +8,7 @@ use Prim.Native.Nat.{ℕ, ◌<◌}
 use native.Mathlib.Omega.{arith}
 use lib.ListN.{length}
 use Rattle.lighting_outputs.specs.Paper.Parameters.{Parameters}
-use Rattle.lighting_levels.specs.Paper.Choice.{if◌then◌else◌}
+use Rattle.lighting_levels.specs.Paper.Choice.{when◌then◌else◌}
 use Rattle.lighting_outputs.specs.Paper.Slots.{slot_count, slot6, slot, is_live, put, emptied}
 use Rattle.lighting_outputs.specs.Paper.Record.{with_effect}
 use Rattle.lighting_outputs.specs.Paper.Writing.{end_movement_unless_above, ended_empty, ended_stored, written_warned, written_by, written, activity_relinquished, slot_relinquished}
@@ -52,21 +52,21 @@ warned_by_lem p t o i v (Warned w) h e = refl
 module _ (p : Parameters) (t : ℕ) (o : Output) (h : Sound p t o) (runs : is_live o.slots slot6 ≡ true) (i : ℕ) (k : Slot i) where
   -- 'kind 02 of zero at P above 6 empties slots 6 and P'
   pub zero_above : slot6 < i → Leaves o (written t o i 0) i none none Still
-  unfolding written written_warned ended_empty if◌then◌else◌
+  unfolding written written_warned ended_empty when◌then◌else◌
   zero_above l =
       rw (warned_by_lem p t o i 0 o.activity h.activity runs, leb_yes {a = 6} {b = i} l)
       (put_leaves o i none h.slots.size k.inside k.free)
 
   -- 'of zero at P below 6 it empties slot 6 and stores'
   pub zero_below : i < slot6 → Leaves o (written t o i 0) i none (some 0) Still
-  unfolding written written_warned ended_stored if◌then◌else◌
+  unfolding written written_warned ended_stored when◌then◌else◌
   zero_below l =
       rw (warned_by_lem p t o i 0 o.activity h.activity runs, leb_no {a = 6} {b = i} (omega arith))
       (put_leaves o i (some 0) h.slots.size k.inside k.free)
 
   -- 'of non_zero it empties slot 6 and stores'
   pub non_zero : (v : ℕ) → v ≢ 0 → Leaves o (written t o i v) i none (some v) Still
-  unfolding written written_warned ended_stored if◌then◌else◌
+  unfolding written written_warned ended_stored when◌then◌else◌
   non_zero v n =
       rw (warned_by_lem p t o i v o.activity h.activity runs, eqb_miss {a = v} {b = 0} n)
       (put_leaves o i (some v) h.slots.size k.inside k.free)
@@ -86,4 +86,4 @@ module _ (p : Parameters) (t : ℕ) (o : Output) (h : Sound p t o) (runs : is_li
       unchanged Still q = absurd (false≢true (sym q ∙ runs))
       unchanged (Moving m) q = absurd (false≢true (sym q.six ∙ runs))
       unchanged (Warned w) q =
-          unfold activity_relinquished end_movement_unless_above if◌then◌else◌ in (by_bool (is_live o.slots i) (λ e. rw e) (λ e. rw e))
+          unfold activity_relinquished end_movement_unless_above when◌then◌else◌ in (by_bool (is_live o.slots i) (λ e. rw e) (λ e. rw e))

@@ -6,7 +6,7 @@ use Prim.Native.Nat.{ℕ, zero, suc, ◌+◌, ◌-◌, ◌*◌, ◌≤◌, ◌<�
 use native.Mathlib.Nat.{mul_comm, mul-le-mul_left, div-eq_of_lt-le, le-div_iff_mul-le}
 use native.Mathlib.Omega.{arith}
 use Rattle.lighting_outputs.specs.Paper.Parameters.{Parameters}
-use Rattle.lighting_levels.specs.Paper.Choice.{if◌then◌else◌}
+use Rattle.lighting_levels.specs.Paper.Choice.{when◌then◌else◌}
 use Rattle.lighting_outputs.specs.Paper.Value.{in_process}
 use Rattle.lighting_outputs.specs.Paper.Record.{with_burning}
 use Rattle.lighting_outputs.specs.Paper.Passing.{lit_milliseconds, with_burned, after_events, fire, ticks}
@@ -29,7 +29,7 @@ ceiling s w d h c = div-eq_of_lt-le {k = d} s {m = 1 * w - 1} (omega (arith, mul
 
 module _ (p : Parameters) (t : ℕ) (o : Output) (m : Movement) (moves : o.activity ≡ Moving m) (begun : m.over ≡ t + m.length) where
   gained : (n : ℕ) → lit_milliseconds t n o ≡ lit_moving t n m
-  unfolding lit_stretch lit_in_movement in_process if◌then◌else◌
+  unfolding lit_stretch lit_in_movement in_process when◌then◌else◌
   gained n = sym (counted t n o) ∙ rw moves
 
   -- k milliseconds of the plain panel
@@ -51,7 +51,7 @@ module _ (p : Parameters) (t : ℕ) (o : Output) (m : Movement) (moves : o.activ
 
   -- A RISE FROM 0, by s units in w milliseconds: its way in its length, or its rate in a second
   rise_at : (s w d k : ℕ) → m.start ≡ 0 → 0 < m.target → k ≤ m.length → s * d < w → w ≤ s * suc d → lit_at s w t k m ≡ k - suc d
-  unfolding lit_at lit_from_zero gone_at moment_after count_since if◌then◌else◌
+  unfolding lit_at lit_from_zero gone_at moment_after count_since when◌then◌else◌
   rise_at s w d k z g l h c =
       rw
       (eqb_hit {a = m.start} {b = 0} z, eqb_miss {a = m.target} {b = 0} (omega arith), eqb_miss {a = s} {b = 0} positive, ceiling s w d h c)
@@ -72,7 +72,7 @@ module _ (p : Parameters) (t : ℕ) (o : Output) (m : Movement) (moves : o.activ
 
   -- A FALL TO 0 to its last millisecond
   fall_at : (s w k : ℕ) → 0 < m.start → m.target ≡ 0 → k ≤ m.length → (0 < s → k ≤ suc (last_short m.start s w)) → lit_at s w t k m ≡ k
-  unfolding lit_at lit_from_light gone_at moment_after count_before if◌then◌else◌
+  unfolding lit_at lit_from_light gone_at moment_after count_before when◌then◌else◌
   fall_at s w k h z l c =
       rw
       (eqb_miss {a = m.start} {b = 0} (omega arith), eqb_hit {a = m.target} {b = 0} z)
@@ -104,7 +104,7 @@ module _ (p : Parameters) (t : ℕ) (o : Output) (m : Movement) (moves : o.activ
 
   -- AND BETWEEN TWO LEVELS ABOVE 0 all the time
   lit_at_lem : (s w k : ℕ) → 0 < m.start → 0 < m.target → lit_at s w t k m ≡ k
-  unfolding lit_at lit_from_light if◌then◌else◌
+  unfolding lit_at lit_from_light when◌then◌else◌
   lit_at_lem s w k h g = rw (eqb_miss {a = m.start} {b = 0} (omega arith), eqb_miss {a = m.target} {b = 0} (omega arith))
 
   pub between : (k : ℕ) → 0 < m.start → 0 < m.target → k ≤ m.length → TimerAfter (t + k) o.timer → (ticks k t o).burning ≡ o.burning + k

@@ -10,7 +10,7 @@ use lib.Ieee.{Float}
 use lib.ListN.{length}
 use mathlib.Core.Option.{none}
 use Rattle.lighting_outputs.specs.Paper.Parameters.{Parameters}
-use Rattle.lighting_levels.specs.Paper.Choice.{if◌then◌else◌}
+use Rattle.lighting_levels.specs.Paper.Choice.{when◌then◌else◌}
 use Rattle.lighting_levels.specs.Paper.Level.{level_units, amount_units, distance}
 use Rattle.lighting_outputs.specs.Paper.Slots.{slot6, slot_count, Slots, winner, filled}
 use Rattle.lighting_outputs.specs.Paper.Value.{clamp_lit, present_value, elapsed, distance_moved, reached_by, reached, progress_by, progress_value, in_process}
@@ -54,8 +54,8 @@ along (Ramp r) s g l k = ramped s g r k
 no_way : (k l : ℕ) → 0 * k / l ≡ 0
 no_way k l = rw (zero-mul k) (zero-div l)
 
-along_by : (w : Pace) (s g l k : ℕ) → (if leb s g then s + distance_moved w (g - s) l k else s - distance_moved w (s - g) l k) ≡ along w s g l k
-unfolding distance_moved if◌then◌else◌
+along_by : (w : Pace) (s g l k : ℕ) → (when leb s g then s + distance_moved w (g - s) l k else s - distance_moved w (s - g) l k) ≡ along w s g l k
+unfolding distance_moved when◌then◌else◌
 along_by Fade s g l k =
     by_le s g
     (λ h e. let z : s - g ≡ 0 = omega arith in rw (e, z, no_way k l) (omega arith))
@@ -99,7 +99,7 @@ ramped_before s g r k h l =
 -- at its last moment a movement ends, and no slot changes
 over_at : (d : ℕ) (o : Output) (m : Movement) → o.activity ≡ Moving m → m.over ≡ d → TimerAfter d o.timer
     → ((fire d o).activity ≡ Still) × ((fire d o).slots ≡ o.slots) × ((fire d o).settings ≡ o.settings)
-unfolding fire after_events is_due activity_due next_activity activity_at next_slots slots_at if◌then◌else◌
+unfolding fire after_events is_due activity_due next_activity activity_at next_slots slots_at when◌then◌else◌
 over_at d o m e h a =
     rw (end_movement_on_expiry_quiet d o.timer o.activity a, expired_quiet d o.timer o.slots a, e, eqb_hit {a = m.over} {b = d} h)
     (refl, refl, refl)
@@ -199,7 +199,7 @@ module _ (p : Parameters) (t : ℕ) (o o' : Output) (y g l : ℕ) (w : Pace) (so
     (last : along w (progress_value t o) g l l ≡ g) where
   at_rest : progress_value t o ≡ g → Course t o o' g l w
   at_rest e =
-      let q : o'.activity ≡ Still = acts ∙ (unfold movement if◌then◌else◌ in (rw (eqb_hit {a = progress_value t o} {b = g} e))) in
+      let q : o'.activity ≡ Still = acts ∙ (unfold movement when◌then◌else◌ in (rw (eqb_hit {a = progress_value t o} {b = g} e))) in
       record {
         begins = progress_still t o' q ∙ shows ∙ sym e;
         shows = shows;
@@ -212,7 +212,7 @@ module _ (p : Parameters) (t : ℕ) (o o' : Output) (y g l : ℕ) (w : Pace) (so
   unfolding ticks
   on_the_way n =
       let m : Movement = record { owner = y; start = progress_value t o; target = g; length = l; over = t + l; pace = w } in
-      let q : o'.activity ≡ Moving m = acts ∙ (unfold movement if◌then◌else◌ in (rw (eqb_miss {a = progress_value t o} {b = g} n))) in
+      let q : o'.activity ≡ Moving m = acts ∙ (unfold movement when◌then◌else◌ in (rw (eqb_miss {a = progress_value t o} {b = g} n))) in
       let first = (moving p t o' m q refl 0 (long n) (rw (add-zero t) (timer_sound_lem t o'.timer sound.timer))).0 in
       let begin : progress_value t o' ≡ along w (progress_value t o) g l 0 = rw (add-zero t) at (first ∙ gone 0 (omega arith)) in
       record {
@@ -259,7 +259,7 @@ module _ (p : Parameters) (t : ℕ) (o : Output) (k : Command) (h : Sound p t o)
       slots = unfold commanded commanded_from with_command placed in (ap (λ (r : Effect). r.slots) e)
 
       acts : (commanded t o k).activity ≡ movement t o.settings.slot (progress_value t o) goal l w
-      acts = unfold commanded commanded_from with_command placed replaced if◌then◌else◌ in
+      acts = unfold commanded commanded_from with_command placed replaced when◌then◌else◌ in
           (ap (λ (r : Effect). r.activity) e ∙ rw (eqb_hit {a = winner (filled before o.settings.slot goal)} {b = o.settings.slot} (ap winner (sym slots) ∙ wins)))
 
       settings : (commanded t o k).settings ≡ o.settings

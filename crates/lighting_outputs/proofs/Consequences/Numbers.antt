@@ -6,7 +6,7 @@ use mathlib.Core.Bool.{Bool}
 use Prim.Native.Nat.{ℕ, ◌-◌, ◌≤◌}
 use native.Mathlib.Omega.{arith}
 use lib.Dec.{eqb, leb, ltb}
-use Rattle.lighting_levels.specs.Paper.Choice.{if◌then◌else◌, ◌also◌}
+use Rattle.lighting_levels.specs.Paper.Choice.{when◌then◌else◌, ◌also◌}
 use Rattle.lighting_outputs.specs.Paper.Parameters.{Parameters, longest_movement, longest_blink, fresh_fade, document01}
 use Rattle.lighting_outputs.specs.Paper.Fresh.{fresh_for, fresh_output}
 use Rattle.lighting_outputs.specs.Paper.Rows.{row_of, within, meets}
@@ -41,14 +41,14 @@ module _ (outputs : ℕ) where
   pub fade_row : row_of (document01 outputs) FadeTime ≡ Whole 100 86400000
   fade_row = refl
 
-  pub fade_field : (fade : ℕ) → time_field_refusal (document01 outputs) (Time fade) ≡ (if within 100 86400000 fade then 0 else 12)
+  pub fade_field : (fade : ℕ) → time_field_refusal (document01 outputs) (Time fade) ≡ (when within 100 86400000 fade then 0 else 12)
   unfolding time_field_refusal meets
   fade_field fade = refl
 
   pub duration_field_lem : (operation : Operation) (d : ℕ)
       → command_lasting (document01 outputs) operation d
-      ≡ (if eqb d 0 then ToOutput (Commands (record { operation = operation; duration = Cancels }))
-      else if within 100 86400000 d then ToOutput (Commands (record { operation = operation; duration = Lasts d }))
+      ≡ (when eqb d 0 then ToOutput (Commands (record { operation = operation; duration = Cancels }))
+      else when within 100 86400000 d then ToOutput (Commands (record { operation = operation; duration = Lasts d }))
       else Refuse 12)
   unfolding command_lasting
   duration_field_lem operation d = refl

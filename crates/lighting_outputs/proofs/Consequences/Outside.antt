@@ -7,7 +7,7 @@ use Prim.Native.Nat.{ℕ, suc, ◌*◌, ◌≤◌, ◌<◌}
 use native.Mathlib.Omega.{arith}
 use lib.Dec.{leb}
 use lib.Ieee.{Float, nan, inf, fin, up, down}
-use Rattle.lighting_levels.specs.Paper.Choice.{if◌then◌else◌}
+use Rattle.lighting_levels.specs.Paper.Choice.{when◌then◌else◌}
 use Rattle.lighting_outputs.specs.Paper.Parameters.{Parameters}
 use Rattle.lighting_levels.specs.Paper.Level.{from_to, level_in, level_of, real_from_to}
 use Rattle.lighting_outputs.specs.Paper.Rows.{row_of}
@@ -46,7 +46,7 @@ Outside ReadOnly x = ⊥
 pub rows_with_a_real : (p : Parameters)
     → map (λ (n : ℕ). row_of p (property_of n)) (0x01 ∷ 0x17 ∷ 0x18 ∷ 0x08 ∷ 0x09 ∷ 0x03 ∷ 0x04 ∷ [])
     ≡ Percent ∷ Percent ∷ Percent ∷ Limit ∷ Limit ∷ Amount ∷ Amount ∷ []
-unfolding property_of numbered if◌then◌else◌
+unfolding property_of numbered when◌then◌else◌
 rows_with_a_real p = refl
 
 -- what is taken is not out of range
@@ -56,14 +56,14 @@ taken units = let never : ◌≡◌ {A = ℕ} 0 1 = cc in absurd (omega arith)
 -- the number a / c
 module _ (eighths a c : ℕ) where
   from_outside : a * 8 < eighths * c ⊎ 100 * c < a → from_to eighths a c ≡ OutOfRange
-  unfolding if◌then◌else◌
+  unfolding when◌then◌else◌
   from_outside (inl low) = rw (leb_no {a = eighths * c} {b = a * 8} low)
   from_outside (inr high) =
       rw (leb_no {a = a} {b = 100 * c} high)
       (by_bool (leb (eighths * c) (a * 8)) (λ test. rw test) (λ test. rw test))
 
   from_only : from_to eighths a c ≡ OutOfRange → a * 8 < eighths * c ⊎ 100 * c < a
-  unfolding if◌then◌else◌
+  unfolding when◌then◌else◌
   from_only =
       by_le (eighths * c) (a * 8)
       (λ least test. rw test (by_le a (100 * c) (λ most test'. rw test' (λ out. taken out)) (λ high test'. rw test' (λ out. inr high))))
@@ -71,12 +71,12 @@ module _ (eighths a c : ℕ) where
 
 -- a level below 1 percent is raised, so that none from 0 to 100 is out of range
 level_outside : (a c : ℕ) → 100 * c < a → level_in a c ≡ OutOfRange
-unfolding if◌then◌else◌
+unfolding when◌then◌else◌
 level_outside a c high =
     rw (eqb_miss {a = a} {b = 0} (λ none. omega arith), leb_no {a = suc a} {b = c} (omega arith)) (from_outside 8 a c (inr high))
 
 level_only : (a c : ℕ) → level_in a c ≡ OutOfRange → 100 * c < a
-unfolding if◌then◌else◌
+unfolding when◌then◌else◌
 level_only a c =
     by_eq a 0
     (λ none test. rw test (λ out. taken out))
@@ -104,14 +104,14 @@ amounts_only eighths (fin false m e) out = from_only eighths (m * up e) (down e)
 
 -- LEVELS
 pub levels_refused : (x : Float) → NoLevel x → level_of x ≡ OutOfRange
-unfolding level_of if◌then◌else◌
+unfolding level_of when◌then◌else◌
 levels_refused nan out = refl
 levels_refused (inf s) out = refl
 levels_refused (fin true m e) out = rw (eqb_miss {a = m * up e} {b = 0} (λ none. omega arith))
 levels_refused (fin false m e) out = level_outside (m * up e) (down e) out
 
 pub levels_only : (x : Float) → level_of x ≡ OutOfRange → NoLevel x
-unfolding level_of if◌then◌else◌
+unfolding level_of when◌then◌else◌
 levels_only nan = λ out. tt
 levels_only (inf s) = λ out. tt
 levels_only (fin true m e) = by_eq (m * up e) 0 (λ none test. rw test (λ out. taken out)) (λ some test out. omega arith)

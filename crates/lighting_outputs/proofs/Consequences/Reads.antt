@@ -7,7 +7,7 @@ use mathlib.Core.Option.{Option, none, some}
 use Prim.Native.Nat.{ℕ, ◌+◌, ◌*◌, ◌/◌, ◌≤◌, ◌<◌}
 use native.Mathlib.Omega.{arith}
 use native.Mathlib.Nat.{add-sub_cancel_left}
-use Rattle.lighting_levels.specs.Paper.Choice.{if◌then◌else◌}
+use Rattle.lighting_levels.specs.Paper.Choice.{when◌then◌else◌}
 use Rattle.lighting_levels.specs.Paper.Level.{bits, read_out}
 use Rattle.lighting_outputs.specs.Paper.Slots.{slot_count, slot6, slot}
 use Rattle.lighting_outputs.specs.Paper.Value.{present_value, progress_value, in_process}
@@ -46,7 +46,7 @@ pub read_numbers : (tenant : Bool) (t : ℕ) (o : Output)
     ∷ Value o.settings.fade
     ∷ Value (bits o.settings.ramp)
     ∷ Value (bits o.settings.step)
-    ∷ Value (if o.settings.enable then 1 else 0)
+    ∷ Value (when o.settings.enable then 1 else 0)
     ∷ Value o.settings.blink
     ∷ Value o.settings.delay
     ∷ Value (read_out o.settings.min)
@@ -55,14 +55,14 @@ pub read_numbers : (tenant : Bool) (t : ℕ) (o : Output)
     ∷ Value (elapsed_active o.burning)
     ∷ Value (in_process o.activity)
     ∷ []
-unfolding acted unchanged property_of numbered read_property level_answer real_answer flag if◌then◌else◌
+unfolding acted unchanged property_of numbered read_property level_answer real_answer flag when◌then◌else◌
 read_numbers tenant t o = refl
 
 -- 'Read only: 0C Present_Value, 0D Progress_Value', which a tenant reads 'rounded down to whole percent' (§8)
 pub read_levels : (t : ℕ) (o : Output)
     → map (reads t o) (0x0c ∷ 0x0d ∷ [])
     ≡ Value (read_out (present_value o.settings o.slots)) ∷ Value (read_out (progress_value t o)) ∷ []
-unfolding acted unchanged property_of numbered read_property shown_level level_answer if◌then◌else◌
+unfolding acted unchanged property_of numbered read_property shown_level level_answer when◌then◌else◌
 read_levels t o = refl
 
 pub read_rounded : (t : ℕ) (o : Output)
@@ -70,7 +70,7 @@ pub read_rounded : (t : ℕ) (o : Output)
     ≡ Value (read_out (present_value o.settings o.slots / 65536 * 65536))
     ∷ Value (read_out (progress_value t o / 65536 * 65536))
     ∷ []
-unfolding acted unchanged property_of numbered read_property shown_level whole_percent level_answer if◌then◌else◌
+unfolding acted unchanged property_of numbered read_property shown_level whole_percent level_answer when◌then◌else◌
 read_rounded t o = refl
 
 -- 'Binary_Active_Value and Binary_Inactive_Value (properties 17 and 18, levels [..]) and Polarity (19, 0
@@ -80,11 +80,11 @@ pub read_relay : (tenant : Bool) (t : ℕ) (o : Output)
     → map (reads_as tenant t o) (0x17 ∷ 0x18 ∷ 0x19 ∷ 0x1a ∷ 0x1b ∷ [])
     ≡ Value (read_out o.relay.active)
     ∷ Value (read_out o.relay.inactive)
-    ∷ Value (if o.relay.reverse then 1 else 0)
-    ∷ Value (if o.relay.binary then 1 else 0)
-    ∷ Value (if (if o.relay.reverse then not o.relay.binary else o.relay.binary) then 1 else 0)
+    ∷ Value (when o.relay.reverse then 1 else 0)
+    ∷ Value (when o.relay.binary then 1 else 0)
+    ∷ Value (when (when o.relay.reverse then not o.relay.binary else o.relay.binary) then 1 else 0)
     ∷ []
-unfolding acted unchanged property_of numbered read_property level_answer flag relay_state if◌then◌else◌
+unfolding acted unchanged property_of numbered read_property level_answer flag relay_state when◌then◌else◌
 read_relay tenant t o = refl
 
 -- '0F last operation (kind minus 10), 10 its level, 11 rate, 12 step, 13 fade time, 14 duration (Absent where
@@ -106,26 +106,26 @@ pub read_last : (tenant : Bool) (t : ℕ) (o : Output) (r : Effect) (timer : Tim
     ∷ (Value 9 ∷ Value (bits x) ∷ Absent ∷ Absent ∷ Absent ∷ Absent ∷ [])
     ∷ (Value 10 ∷ Absent ∷ Absent ∷ Absent ∷ Absent ∷ Absent ∷ [])
     ∷ []
-unfolding acted unchanged property_of numbered read_property real_answer real_field_answer time_field_answer last_duration operation_number fields_of with_command if◌then◌else◌
+unfolding acted unchanged property_of numbered read_property real_answer real_field_answer time_field_answer last_duration operation_number fields_of with_command when◌then◌else◌
 read_last tenant t o r timer x y f = refl
 
 -- 'property unknown' is 9: 00, 15 and 16, 1C to 20 and 31 on
 pub read_between : (tenant : Bool) (t : ℕ) (o : Output)
     → map (reads_as tenant t o) (0x15 ∷ 0x16 ∷ []) ≡ Refused 9 ∷ Refused 9 ∷ []
-unfolding acted unchanged property_of numbered read_property if◌then◌else◌
+unfolding acted unchanged property_of numbered read_property when◌then◌else◌
 read_between tenant t o = refl
 
 pub read_unknown : (tenant : Bool) (t : ℕ) (o : Output) (n : ℕ) → 0x1b < n → n < 0x21
     → reads_as tenant t o n ≡ Refused 9
-unfolding acted unchanged property_of numbered read_property if◌then◌else◌
+unfolding acted unchanged property_of numbered read_property when◌then◌else◌
 read_unknown tenant t o n h k = rw (leb_no {a = 0x21} {b = n} k, unlisted n h)
 
 pub read_past : (tenant : Bool) (t : ℕ) (o : Output) (n : ℕ) → 0x30 < n → reads_as tenant t o n ≡ Refused 9
-unfolding acted unchanged property_of numbered read_property if◌then◌else◌
+unfolding acted unchanged property_of numbered read_property when◌then◌else◌
 read_past tenant t o n h = rw (leb_yes {a = 0x21} {b = n} (omega arith), leb_no {a = n} {b = 0x30} h)
 
 pub read_none : (tenant : Bool) (t : ℕ) (o : Output) → reads_as tenant t o 0 ≡ Refused 9
-unfolding acted unchanged property_of numbered read_property if◌then◌else◌
+unfolding acted unchanged property_of numbered read_property when◌then◌else◌
 read_none tenant t o = refl
 
 -- '21 to 30 slots 1 to 16 (Absent if not live)'
@@ -134,7 +134,7 @@ slot_as none = Absent
 slot_as (some v) = Value (read_out v)
 
 slot_number : (i : ℕ) → i < slot_count → property_of (0x21 + i) ≡ SlotValue i
-unfolding property_of if◌then◌else◌
+unfolding property_of when◌then◌else◌
 slot_number i h =
     rw (
       leb_yes {a = 0x21} {b = 0x21 + i} (omega arith),
@@ -143,7 +143,7 @@ slot_number i h =
     )
 
 pub read_slots : (t : ℕ) (o : Output) (i : ℕ) → i < slot_count → reads t o (0x21 + i) ≡ slot_as (slot o.slots i)
-unfolding acted unchanged read_property hidden slot_answer if◌then◌else◌
+unfolding acted unchanged read_property hidden slot_answer when◌then◌else◌
 read_slots t o i h = rw (slot_number i h) (by (slot o.slots i))
   where
     by : (x : Option ℕ) → level_or_absent x ≡ slot_as x
@@ -152,24 +152,24 @@ read_slots t o i h = rw (slot_number i h) (by (slot o.slots i))
 
 -- 'A tenant reading slots 1 to 6 gets Absent' (§8), live or not; slots 7 to 16 it reads as anyone
 pub hides : (i : ℕ) → i < 6 → hidden for_tenant i ≡ true
-unfolding hidden if◌then◌else◌
+unfolding hidden when◌then◌else◌
 hides i h = leb_yes {a = i} {b = slot6} (omega arith)
 
 pub hides_no_more : (i : ℕ) → 6 ≤ i → hidden for_tenant i ≡ false
-unfolding hidden if◌then◌else◌
+unfolding hidden when◌then◌else◌
 hides_no_more i h = leb_no {a = i} {b = slot6} (omega arith)
 
 hides_from_none : (i : ℕ) → hidden for_service i ≡ false
-unfolding hidden if◌then◌else◌
+unfolding hidden when◌then◌else◌
 hides_from_none i = refl
 
 pub read_hidden : (t : ℕ) (o : Output) (i : ℕ) → i < 6 → reads_as for_tenant t o (0x21 + i) ≡ Absent
-unfolding acted unchanged read_property if◌then◌else◌
+unfolding acted unchanged read_property when◌then◌else◌
 read_hidden t o i h = rw (slot_number i (omega arith), hides i h)
 
 pub read_shown : (t : ℕ) (o : Output) (i : ℕ) → 6 ≤ i → i < slot_count
     → reads_as for_tenant t o (0x21 + i) ≡ reads t o (0x21 + i)
-unfolding acted unchanged read_property if◌then◌else◌
+unfolding acted unchanged read_property when◌then◌else◌
 read_shown t o i h k = rw (slot_number i k, hides_no_more i h, hides_from_none i)
 
 -- what is refused is not Done

@@ -5,7 +5,7 @@ use mathlib.Core.Bool.{false}
 use Prim.Native.Nat.{ℕ}
 use native.Mathlib.Omega.{arith}
 use lib.Ieee.{Float}
-use Rattle.lighting_levels.specs.Paper.Choice.{if◌then◌else◌}
+use Rattle.lighting_levels.specs.Paper.Choice.{when◌then◌else◌}
 use Rattle.lighting_outputs.specs.Paper.Parameters.{Parameters}
 use Rattle.lighting_levels.specs.Paper.Level.{real, level_of, real_from_to, amount_of, limit_of, in_range}
 use Rattle.lighting_outputs.specs.Paper.Rows.{row_of, within, is_amount, is_priority}
@@ -41,7 +41,7 @@ amount_only x refused = amounts_only 1 x (by (real_from_to 1 x) refused)
 
 -- OUT OF RANGE, IT IS 11: of the value written, its pattern
 asks_eleven : (row : Range) (property : Property) (pattern : ℕ) → Outside row (real pattern) → change_by row property pattern ≡ Refuse 11
-unfolding change_by change_to limit_of if◌then◌else◌
+unfolding change_by change_to limit_of when◌then◌else◌
 asks_eleven Percent property pattern out = rw (levels_refused (real pattern) out)
 asks_eleven Limit property pattern out = rw (amounts_refused 8 (real pattern) out)
 asks_eleven Amount property pattern out = rw (amount_refused (real pattern) out)
@@ -65,7 +65,7 @@ module _ (t : ℕ) (o : Output) where
   refused_other refusal differs answer = differs (cc)
 
   changed_other : (property : Property) (v : ℕ) → Other (ToOutput (Change property v))
-  unfolding served acted changed_unless unchanged done if◌then◌else◌
+  unfolding served acted changed_unless unchanged done when◌then◌else◌
   changed_other property v =
       by_bool (min_over_max (settings_with o.settings property v))
       (λ test. rw test (λ answer. let never : ◌≡◌ {A = ℕ} 13 11 = cc in omega arith))
@@ -81,7 +81,7 @@ module _ (t : ℕ) (o : Output) where
 
   by_row : (row : Range) (property : Property) (pattern : ℕ) → (alone t o (change_by row property pattern)).answer ≡ Refused 11
       → Outside row (real pattern)
-  unfolding change_by limit_of if◌then◌else◌
+  unfolding change_by limit_of when◌then◌else◌
   by_row Percent property pattern = λ answer. levels_only (real pattern) (by_level property (level_of (real pattern)) answer)
   by_row Limit property pattern = λ answer. amounts_only 8 (real pattern) (by_level property (limit_of (real pattern)) answer)
   by_row Amount property pattern =

@@ -4,7 +4,7 @@ use mathlib.Core.Bool.{Bool, true, false, not}
 use Prim.Native.Nat.{ℕ, zero, suc, ◌+◌, ◌≤◌, ◌<◌}
 use native.Mathlib.Omega.{arith}
 use lib.Dec.{ltb, eqb}
-use Rattle.lighting_levels.specs.Paper.Choice.{if◌then◌else◌}
+use Rattle.lighting_levels.specs.Paper.Choice.{when◌then◌else◌}
 use Rattle.lighting_outputs.specs.Paper.Slots.{slot6}
 use Rattle.lighting_outputs.specs.Paper.Value.{present_value, progress_value}
 use Rattle.lighting_outputs.specs.Paper.Relay.{binary_at, switched, relay_state, inactive_not_below}
@@ -44,16 +44,16 @@ tick_relay t o = refl
 
 -- HOW: active at or above the one value, inactive at or below the other
 pub at_or_above : (v : ℕ) (r : Relay) → r.active ≤ v → (switched v r).binary ≡ true
-unfolding switched binary_at if◌then◌else◌
+unfolding switched binary_at when◌then◌else◌
 at_or_above v r h = rw (leb_yes {a = r.active} {b = v} h)
 
 pub at_or_below : (v : ℕ) (r : Relay) → r.inactive < r.active → v ≤ r.inactive → (switched v r).binary ≡ false
-unfolding switched binary_at if◌then◌else◌
+unfolding switched binary_at when◌then◌else◌
 at_or_below v r b h = rw (leb_no {a = r.active} {b = v} (omega arith), leb_yes {a = v} {b = r.inactive} h)
 
 -- BETWEEN THE TWO NOTHING CHANGES IT: no judging, no millisecond, and nothing that a frame asks
 pub between : (v : ℕ) (r : Relay) → r.inactive < v → v < r.active → switched v r ≡ r
-unfolding switched binary_at if◌then◌else◌
+unfolding switched binary_at when◌then◌else◌
 between v r h k = rw (leb_no {a = r.active} {b = v} k, leb_no {a = v} {b = r.inactive} h)
 
 pub between_tick : (t : ℕ) (o : Output) → o.relay.inactive < present (tick t o) → present (tick t o) < o.relay.active → (tick t o).relay ≡ o.relay
@@ -132,10 +132,10 @@ reversed o =
     (record { active = o.relay.active; inactive = o.relay.inactive; reverse = not o.relay.reverse; binary = o.relay.binary })
 
 pub opposite : (o : Output) → relay_state (reversed o).relay ≡ not (relay_state o.relay)
-unfolding reversed relay_state if◌then◌else◌
+unfolding reversed relay_state when◌then◌else◌
 opposite o = go o.relay.reverse o.relay.binary
   where
-    go : (reverse binary : Bool) → (if not reverse then not binary else binary) ≡ not (if reverse then not binary else binary)
+    go : (reverse binary : Bool) → (when not reverse then not binary else binary) ≡ not (when reverse then not binary else binary)
     go true true = refl
     go true false = refl
     go false binary = refl
@@ -168,18 +168,18 @@ unfolding written written_by reversed
 written_reversed t o i v = go o.activity
   where
     calm : written_calm t (reversed o) i v ≡ reversed (written_calm t o i v)
-    calm = unfold written_calm written_zero stored warned warned_by with_effect if◌then◌else◌ in
+    calm = unfold written_calm written_zero stored warned warned_by with_effect when◌then◌else◌ in
         (by_bool (eqb v 0) (λ e. rw e (by_bool (warns o.settings o.slots i) (λ e'. rw e') (λ e'. rw e'))) (λ e. rw e))
 
     go : (a : Activity) → written_by t (reversed o) i v a ≡ reversed (written_by t o i v a)
     go Still = calm
     go (Moving m) = calm
-    go (Warned warning) = unfold written_warned ended_empty ended_stored with_effect if◌then◌else◌ in
+    go (Warned warning) = unfold written_warned ended_empty ended_stored with_effect when◌then◌else◌ in
         (by_bool (eqb v 0) (λ e. rw e (by_bool (ltb slot6 i) (λ e'. rw e') (λ e'. rw e'))) (λ e. rw e))
 
 changed_reversed : (o : Output) (property : Property) (v : ℕ) → same Polarity property ≡ false
     → changed (reversed o) property v ≡ reversed (changed o property v)
-unfolding changed with_settings relay_with reversed if◌then◌else◌
+unfolding changed with_settings relay_with reversed when◌then◌else◌
 changed_reversed o property v e = rw e
 
 acted_reversed : (tenant : Bool) (t : ℕ) (o : Output) (q : OutputRequest) → NoPolarity q
@@ -189,7 +189,7 @@ acted_reversed tenant t o (Write i v) p =
     judged_reversed (written t o i v) (written t (reversed o) i v) (written_reversed t o i v)
 acted_reversed tenant t o (Empty i) p =
     judged_reversed (slot_relinquished o i) (slot_relinquished (reversed o) i) (unfold slot_relinquished with_effect reversed in refl)
-acted_reversed tenant t o (Change property v) p = unfold changed_unless if◌then◌else◌ in
+acted_reversed tenant t o (Change property v) p = unfold changed_unless when◌then◌else◌ in
     (by_bool
     (min_over_max (settings_with o.settings property v))
     (λ e. unfold reversed in (rw e))

@@ -7,7 +7,7 @@ use mathlib.Core.Option.{none, some}
 use Prim.Native.Nat.{ℕ, suc, ◌≤◌, ◌<◌}
 use native.Mathlib.Omega.{arith}
 use Rattle.lighting_outputs.specs.Paper.Parameters.{Parameters}
-use Rattle.lighting_levels.specs.Paper.Choice.{if◌then◌else◌}
+use Rattle.lighting_levels.specs.Paper.Choice.{when◌then◌else◌}
 use Rattle.lighting_outputs.specs.Paper.Slots.{slot_count, slot6, slot, is_live}
 use Rattle.lighting_outputs.specs.Paper.Value.{clamp_lit, present_value}
 use Rattle.lighting_outputs.specs.Paper.Record.{with_effect}
@@ -32,7 +32,7 @@ module _ (p : Parameters) (t : ℕ) (o : Output) (h : Sound p t o) (calm : is_li
     no_warning : (Starts o.settings o.slots i → ⊥) → Plainly v
 
   store : (v : ℕ) → Plainly v → written t o i v ≡ stored o i v
-  unfolding written written_calm written_zero if◌then◌else◌
+  unfolding written written_calm written_zero when◌then◌else◌
   store v (above_zero n) = rw (calm_by p t o i v o.activity h.activity calm, eqb_miss {a = v} {b = 0} n)
   store v (no_warning n) =
       rw (calm_by p t o i v o.activity h.activity calm)
@@ -50,11 +50,11 @@ module _ (p : Parameters) (t : ℕ) (o : Output) (h : Sound p t o) (calm : is_li
 
   -- 'A movement goes on if P is above its owner's number [..]; else it ends'
   pub goes_on : (v : ℕ) → Plainly v → (m : Movement) → o.activity ≡ Moving m → m.owner < i → (written t o i v).activity ≡ Moving m
-  unfolding stored with_effect end_movement_unless_above if◌then◌else◌
+  unfolding stored with_effect end_movement_unless_above when◌then◌else◌
   goes_on v n m e l = rw (store v n, e, leb_yes {a = suc m.owner} {b = i} l)
 
   pub breaks_off : (v : ℕ) → Plainly v → (m : Movement) → o.activity ≡ Moving m → i ≤ m.owner → (written t o i v).activity ≡ Still
-  unfolding stored with_effect end_movement_unless_above if◌then◌else◌
+  unfolding stored with_effect end_movement_unless_above when◌then◌else◌
   breaks_off v n m e l = rw (store v n, e, leb_no {a = suc m.owner} {b = i} (omega arith))
 
 -- KIND 03
@@ -69,15 +69,15 @@ module _ (p : Parameters) (t : ℕ) (o : Output) (h : Sound p t o) (i : ℕ) (k 
 
   -- 'or if kind 03 empties an empty slot'
   pub empty_goes_on : is_live o.slots i ≡ false → (slot_relinquished o i).activity ≡ o.activity
-  unfolding slot_relinquished with_effect activity_relinquished if◌then◌else◌
+  unfolding slot_relinquished with_effect activity_relinquished when◌then◌else◌
   empty_goes_on e = rw e
 
   pub emptied_goes_on : (m : Movement) → o.activity ≡ Moving m → m.owner < i → (slot_relinquished o i).activity ≡ Moving m
-  unfolding slot_relinquished with_effect activity_relinquished end_movement_unless_above if◌then◌else◌
+  unfolding slot_relinquished with_effect activity_relinquished end_movement_unless_above when◌then◌else◌
   emptied_goes_on m e l = rw e (by_bool (is_live o.slots i) (λ f. rw (f, leb_yes {a = suc m.owner} {b = i} l)) (λ f. rw f))
 
   pub emptied_breaks_off : (m : Movement) → o.activity ≡ Moving m → i ≤ m.owner → is_live o.slots i ≡ true → (slot_relinquished o i).activity ≡ Still
-  unfolding slot_relinquished with_effect activity_relinquished end_movement_unless_above if◌then◌else◌
+  unfolding slot_relinquished with_effect activity_relinquished end_movement_unless_above when◌then◌else◌
   emptied_breaks_off m e l f = rw (e, f, leb_no {a = suc m.owner} {b = i} (omega arith))
 
   -- PRESENT_VALUE becomes the next live slot's, or Relinquish_Default's

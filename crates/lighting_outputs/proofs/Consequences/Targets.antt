@@ -8,7 +8,7 @@ use native.Mathlib.Omega.{arith}
 use lib.Ieee.{Float}
 use lib.ListN.{length}
 use Rattle.lighting_outputs.specs.Paper.Parameters.{Parameters}
-use Rattle.lighting_levels.specs.Paper.Choice.{if◌then◌else◌}
+use Rattle.lighting_levels.specs.Paper.Choice.{when◌then◌else◌}
 use Rattle.lighting_levels.specs.Paper.Level.{level_units, amount_units}
 use Rattle.lighting_outputs.specs.Paper.Slots.{slot_count, slot6, Slots, slot, winner, put, filled}
 use Rattle.lighting_outputs.specs.Paper.Value.{clamp_lit, present_value, progress_by, progress_value, in_process}
@@ -80,12 +80,12 @@ not_in_process (Warned w) n = refl
 
 stop_own : (t : ℕ) (c : Settings) (f : ℕ) (s : Slots) (a : Activity) (m : Movement) → a ≡ Moving m → m.owner ≡ c.slot
     → effect t c f s (activity_without_warning a) Stop ≡ halted c f s
-unfolding effect stopped activity_without_warning if◌then◌else◌
+unfolding effect stopped activity_without_warning when◌then◌else◌
 stop_own t c f s a m e w = rw (e, eqb_hit {a = m.owner} {b = c.slot} w)
 
 stop_not_own : (t : ℕ) (c : Settings) (f : ℕ) (s : Slots) (a : Activity) (m : Movement) → a ≡ Moving m → m.owner ≢ c.slot
     → effect t c f s (activity_without_warning a) Stop ≡ as_it_is s (Moving m)
-unfolding effect stopped activity_without_warning if◌then◌else◌
+unfolding effect stopped activity_without_warning when◌then◌else◌
 stop_not_own t c f s a m e w = rw (e, eqb_miss {a = m.owner} {b = c.slot} w)
 
 stop_none : (t : ℕ) (c : Settings) (f : ℕ) (s : Slots) (a : Activity) → NotMoving a → effect t c f s (activity_without_warning a) Stop ≡ as_it_is s Still
@@ -95,11 +95,11 @@ stop_none t c f s (Moving m) n = elim n [ ]
 stop_none t c f s (Warned w) n = refl
 
 end_movement_of_own : (y : ℕ) (a : Activity) (m : Movement) → a ≡ Moving m → m.owner ≡ y → end_movement_of y (activity_without_warning a) ≡ Still
-unfolding end_movement_of activity_without_warning if◌then◌else◌
+unfolding end_movement_of activity_without_warning when◌then◌else◌
 end_movement_of_own y a m e w = rw (e, eqb_hit {a = m.owner} {b = y} w)
 
 end_movement_of_other : (y : ℕ) (a : Activity) (m : Movement) → a ≡ Moving m → m.owner ≢ y → end_movement_of y (activity_without_warning a) ≡ Moving m
-unfolding end_movement_of activity_without_warning if◌then◌else◌
+unfolding end_movement_of activity_without_warning when◌then◌else◌
 end_movement_of_other y a m e w = rw (e, eqb_miss {a = m.owner} {b = y} w)
 
 module _ (p : Parameters) (t : ℕ) (o : Output) (h : Sound p t o) (d : Duration) where
@@ -156,19 +156,19 @@ module _ (p : Parameters) (t : ℕ) (o : Output) (h : Sound p t o) (d : Duration
 
   pub step_down : progress_value t o ≢ 0
       → Sets o (after t o StepDown d) y (some (min o.settings.max (max o.settings.min (progress_value t o - amount_units o.settings.step))))
-  step_down n = puts StepDown (some _) (unfold effect stepped_down jumped placed step_down_from if◌then◌else◌ in (rw (eqb_miss {a = progress_value t o} {b = 0} n)))
+  step_down n = puts StepDown (some _) (unfold effect stepped_down jumped placed step_down_from when◌then◌else◌ in (rw (eqb_miss {a = progress_value t o} {b = 0} n)))
 
   pub step_down_by : (x : Float) → progress_value t o ≢ 0
       → Sets o (after t o (StepDownBy x) d) y (some (min o.settings.max (max o.settings.min (progress_value t o - amount_units x))))
   step_down_by x n =
-      puts (StepDownBy x) (some _) (unfold effect stepped_down jumped placed step_down_from if◌then◌else◌ in (rw (eqb_miss {a = progress_value t o} {b = 0} n)))
+      puts (StepDownBy x) (some _) (unfold effect stepped_down jumped placed step_down_from when◌then◌else◌ in (rw (eqb_miss {a = progress_value t o} {b = 0} n)))
 
   pub step_down_dark : progress_value t o ≡ 0 → Sets o (after t o StepDown d) y (some 0)
-  step_down_dark e = puts StepDown (some _) (unfold effect stepped_down jumped placed step_down_from if◌then◌else◌ in (rw (eqb_hit {a = progress_value t o} {b = 0} e)))
+  step_down_dark e = puts StepDown (some _) (unfold effect stepped_down jumped placed step_down_from when◌then◌else◌ in (rw (eqb_hit {a = progress_value t o} {b = 0} e)))
 
   pub step_down_by_dark : (x : Float) → progress_value t o ≡ 0 → Sets o (after t o (StepDownBy x) d) y (some 0)
   step_down_by_dark x e =
-      puts (StepDownBy x) (some _) (unfold effect stepped_down jumped placed step_down_from if◌then◌else◌ in (rw (eqb_hit {a = progress_value t o} {b = 0} e)))
+      puts (StepDownBy x) (some _) (unfold effect stepped_down jumped placed step_down_from when◌then◌else◌ in (rw (eqb_hit {a = progress_value t o} {b = 0} e)))
 
   -- 'RELINQUISH empties slot p'
   pub relinquish : Sets o (after t o Relinquish d) y none
@@ -186,11 +186,11 @@ module _ (p : Parameters) (t : ℕ) (o : Output) (h : Sound p t o) (d : Duration
 
   pub stop_lit : (m : Movement) → o.activity ≡ Moving m → m.owner ≡ y → progress_value t o ≢ 0
       → Sets o (after t o Stop d) y (some (max o.settings.min (progress_value t o))) × ((after t o Stop d).activity ≡ Still)
-  stop_lit m e w n = stop_by m _ e w (unfold raised if◌then◌else◌ in (rw (eqb_miss {a = progress_value t o} {b = 0} n)))
+  stop_lit m e w n = stop_by m _ e w (unfold raised when◌then◌else◌ in (rw (eqb_miss {a = progress_value t o} {b = 0} n)))
 
   pub stop_dark : (m : Movement) → o.activity ≡ Moving m → m.owner ≡ y → progress_value t o ≡ 0
       → Sets o (after t o Stop d) y (some 0) × ((after t o Stop d).activity ≡ Still)
-  stop_dark m e w n = stop_by m _ e w (unfold raised if◌then◌else◌ in (rw (eqb_hit {a = progress_value t o} {b = 0} n)))
+  stop_dark m e w n = stop_by m _ e w (unfold raised when◌then◌else◌ in (rw (eqb_hit {a = progress_value t o} {b = 0} n)))
 
   -- 'Else it changes no slot, a warning's end aside', and another slot's movement goes on
   pub stop_other : (m : Movement) → o.activity ≡ Moving m → m.owner ≢ y → ((after t o Stop d).slots ≡ before) × ((after t o Stop d).activity ≡ Moving m)
@@ -207,11 +207,11 @@ module _ (p : Parameters) (t : ℕ) (o : Output) (h : Sound p t o) (d : Duration
 
   -- a jump of the winner ends the movement; one that does not win leaves it
   pub goto_wins : (x : Float) → winner (after t o (Goto x) d).slots ≡ y → (after t o (Goto x) d).activity ≡ Still
-  unfolding commanded commanded_from with_command effect went_to jumped placed replaced if◌then◌else◌
+  unfolding commanded commanded_from with_command effect went_to jumped placed replaced when◌then◌else◌
   goto_wins x w = rw (eqb_hit {a = winner (filled before y (target o.settings x))} {b = y} w)
 
   pub goto_loses : (x : Float) → winner (after t o (Goto x) d).slots ≢ y → (after t o (Goto x) d).activity ≡ activity_without_warning o.activity
-  unfolding commanded commanded_from with_command effect went_to jumped placed replaced if◌then◌else◌
+  unfolding commanded commanded_from with_command effect went_to jumped placed replaced when◌then◌else◌
   goto_loses x w = rw (eqb_miss {a = winner (filled before y (target o.settings x))} {b = y} w)
 
   -- 'if p owned the movement, it ends', and no other does

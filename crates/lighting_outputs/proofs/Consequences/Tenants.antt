@@ -8,7 +8,7 @@ use Prim.Native.Nat.{ℕ, ◌+◌, ◌-◌, ◌*◌, ◌/◌, ◌≤◌, ◌<◌
 use native.Mathlib.Omega.{arith}
 use lib.Seq.{get_or-drop}
 use lib.ListN.{get_or, drop}
-use Rattle.lighting_levels.specs.Paper.Choice.{if◌then◌else◌}
+use Rattle.lighting_levels.specs.Paper.Choice.{when◌then◌else◌}
 use Rattle.lighting_outputs.specs.Paper.Slots.{slots_of}
 use Rattle.lighting_outputs.specs.Paper.Relay.{relay_state}
 use Rattle.lighting_outputs.specs.Paper.Tenants.{for_tenant, for_service, whole_percent, shown_level, hidden}
@@ -81,7 +81,7 @@ exact_numbers =
     ++ (0x20 ∷ 0x27 ∷ 0x28 ∷ 0x29 ∷ 0x2a ∷ 0x2b ∷ 0x2c ∷ 0x2d ∷ 0x2e ∷ 0x2f ∷ 0x30 ∷ [])
 
 pub exact : (t : ℕ) (o : Output) → map (reads_as for_tenant t o) exact_numbers ≡ map (reads t o) exact_numbers
-unfolding acted unchanged property_of numbered read_property hidden if◌then◌else◌
+unfolding acted unchanged property_of numbered read_property hidden when◌then◌else◌
 exact t o = refl
 
 -- ALIKE IN ALL THAT A TENANT MAY LEARN, two outputs read the same to it, whatever it asks for. Slots 1 to 6,
@@ -101,7 +101,7 @@ module _ (t : ℕ) (o o' : Output) (alike : (what : Learnt) → AlikeIn what t o
 
   pub alike_reads : (property : Property)
       → read_property for_tenant t o property ≡ read_property for_tenant t o' property
-  unfolding read_property shown_level relay_state if◌then◌else◌
+  unfolding read_property shown_level relay_state when◌then◌else◌
   alike_reads RelinquishDefault = rw (alike the_settings)
   alike_reads FadeTime = rw (alike the_settings)
   alike_reads RampRate = rw (alike the_settings)

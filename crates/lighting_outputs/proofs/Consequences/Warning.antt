@@ -9,7 +9,7 @@ use Prim.Native.Nat.{ℕ, zero, suc, ◌+◌, ◌-◌, ◌≤◌, ◌<◌}
 use native.Mathlib.Omega.{arith}
 use lib.ListN.{get_or, length}
 use Rattle.lighting_outputs.specs.Paper.Parameters.{Parameters}
-use Rattle.lighting_levels.specs.Paper.Choice.{if◌then◌else◌}
+use Rattle.lighting_levels.specs.Paper.Choice.{when◌then◌else◌}
 use Rattle.lighting_outputs.specs.Paper.Slots.{slot_count, slot6, Slots, slot, slots_of, winning_level, first_live, winner, is_live, put, emptied, filled}
 use Rattle.lighting_outputs.specs.Paper.Value.{clamp_lit, present_value}
 use Rattle.lighting_outputs.specs.Paper.Record.{with_burning, with_relay, with_effect}
@@ -91,7 +91,7 @@ module _ (c : Settings) (s : Slots) (x : ℕ) (starts : Starts c s x) where
   present_over : {b : Option ℕ} (z : Slots) → Unlit b → State s x none b z → present_value c z ≡ 0
   unfolding present_value
   present_over {b} z u h =
-      rw (winning_level_view c.default z h.size, starts.default, first_zero_or_empty (slots_of z) unlit) (unfold clamp_lit if◌then◌else◌ in refl)
+      rw (winning_level_view c.default z h.size, starts.default, first_zero_or_empty (slots_of z) unlit) (unfold clamp_lit when◌then◌else◌ in refl)
     where
       unlit : (i : ℕ) → i < length (slots_of z) → Unlit (get_or (slots_of z) i none)
       unlit i m =
@@ -128,21 +128,21 @@ record Became (o o' : Output) (z : Slots) (a : Activity) : Type 0 where
 
 turns : (d x y v : ℕ) (o : Output) → o.activity ≡ warning_in Blink x y d v → TimerAfter d o.timer → d < v
     → Became o (fire d o) (filled o.slots slot6 y) (warning_in Delay x y d v)
-unfolding fire after_events is_due phase_end activity_due delayed next_phase next_activity activity_at phase_slots next_slots slots_at if◌then◌else◌
+unfolding fire after_events is_due phase_end activity_due delayed next_phase next_activity activity_at phase_slots next_slots slots_at when◌then◌else◌
 turns d x y v o e a l =
     rw (end_movement_on_expiry_quiet d o.timer o.activity a, expired_quiet d o.timer o.slots a, timer_quiet d o.timer a, e, eqb_hit {a = d} {b = d} refl, leb_yes {a = suc d} {b = v} l)
     (record { settings = refl; slots = refl; activity = refl; timer = refl })
 
 turns_off : (d x y v : ℕ) (o : Output) → o.activity ≡ warning_in Blink x y d v → TimerAfter d o.timer → v ≤ d
     → Became o (fire d o) (emptied o.slots slot6) Still
-unfolding fire after_events is_due phase_end activity_due delayed next_phase next_activity activity_at phase_slots next_slots slots_at if◌then◌else◌
+unfolding fire after_events is_due phase_end activity_due delayed next_phase next_activity activity_at phase_slots next_slots slots_at when◌then◌else◌
 turns_off d x y v o e a l =
     rw (end_movement_on_expiry_quiet d o.timer o.activity a, expired_quiet d o.timer o.slots a, timer_quiet d o.timer a, e, eqb_hit {a = d} {b = d} refl, leb_no {a = suc d} {b = v} (omega arith))
     (record { settings = refl; slots = refl; activity = refl; timer = refl })
 
 ends : (d x y u : ℕ) (o : Output) → o.activity ≡ warning_in Delay x y u d → TimerAfter d o.timer
     → Became o (fire d o) (emptied (emptied o.slots slot6) x) Still
-unfolding fire after_events is_due phase_end activity_due delayed next_phase next_activity activity_at phase_slots next_slots slots_at if◌then◌else◌
+unfolding fire after_events is_due phase_end activity_due delayed next_phase next_activity activity_at phase_slots next_slots slots_at when◌then◌else◌
 ends d x y u o e a =
     rw (end_movement_on_expiry_quiet d o.timer o.activity a, expired_quiet d o.timer o.slots a, timer_quiet d o.timer a, e, eqb_hit {a = d} {b = d} refl)
     (record { settings = refl; slots = refl; activity = refl; timer = refl })
@@ -227,7 +227,7 @@ module _ (c : Settings) (s : Slots) (x y : ℕ) (starts : Starts c s x) (inside 
 
 -- WHEN A WARNING STARTS: exactly under the paper's conditions
 zero_or_empty_slot : (s : Slots) (i : ℕ) → length s.levels ≡ slot_count → i < slot_count → Unlit (slot s i) → zero_or_empty s i ≡ true
-unfolding zero_or_empty if◌then◌else◌
+unfolding zero_or_empty when◌then◌else◌
 zero_or_empty_slot s i z k h =
     by_bool (is_live s i)
     (λ e. rw e (eqb_hit {a = get_or s.levels i 0} {b = 0} (go (get_or s.levels i 0) (slot_is s i (omega arith) ∙ rw e))))
@@ -237,13 +237,13 @@ zero_or_empty_slot s i z k h =
     go v e = rw e at h
 
 slot_zero_or_empty : (s : Slots) (i : ℕ) → length s.levels ≡ slot_count → i < slot_count → zero_or_empty s i ≡ true → Unlit (slot s i)
-unfolding zero_or_empty if◌then◌else◌
+unfolding zero_or_empty when◌then◌else◌
 slot_zero_or_empty s i z k h =
     rw (slot_is s i (omega arith))
     (by_bool (is_live s i) (λ e. rw e (eq_of (rw e at h))) (λ e. rw e tt))
 
 pub dead_slot : (s : Slots) (i : ℕ) → length s.levels ≡ slot_count → i < slot_count → is_live s i ≡ false → slot s i ≡ none
-unfolding if◌then◌else◌
+unfolding when◌then◌else◌
 dead_slot s i z k e = slot_is s i (omega arith) ∙ rw e
 
 first_from : (l : List (Option ℕ)) (x : ℕ) → x ≤ length l → ((i : ℕ) → i < x → get_or l i none ≡ none) → x ≤ first_live l
@@ -353,7 +353,7 @@ calm_by p t o i v (Warned w) h e = absurd (true≢false (sym h.six ∙ e))
 -- x
 pub warning : (p : Parameters) (t : ℕ) (o : Output) (x : ℕ) → Sound p t o → x < slot_count → Starts o.settings o.slots x
     → Course o.settings o.slots x (present_value o.settings o.slots) t (written t o x 0)
-unfolding written written_calm written_zero warned warned_by with_effect warning_from first_level first_phase if◌then◌else◌
+unfolding written written_calm written_zero warned warned_by with_effect warning_from first_level first_phase when◌then◌else◌
 warning p t o x h inside starts =
     let c = o.settings in
     let s = o.slots in
@@ -370,4 +370,4 @@ warning p t o x h inside starts =
     (from_blink c s x y starts inside same t _ (omega arith) refl (seen_lit c s x y starts inside same 0 _ zero_or_empty_zero refl (begun c s x z inside n 0)))))
   where
     zero_or_empty_zero : clamp_lit o.settings 0 ≡ 0
-    zero_or_empty_zero = unfold clamp_lit if◌then◌else◌ in refl
+    zero_or_empty_zero = unfold clamp_lit when◌then◌else◌ in refl

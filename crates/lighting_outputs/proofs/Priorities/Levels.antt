@@ -5,7 +5,7 @@ use native.Mathlib.Omega.{arith}
 use lib.ListN.{set, get_or}
 use lib.Seq.{get_or-set_same, get_or-set_other}
 use Rattle.lighting_outputs.specs.Paper.Parameters.{Parameters}
-use Rattle.lighting_levels.specs.Paper.Choice.{if◌then◌else◌}
+use Rattle.lighting_levels.specs.Paper.Choice.{when◌then◌else◌}
 use Rattle.lighting_levels.proofs.Split.{by_eq}
 use Rattle.lighting_outputs.specs.declared.Settings.{Settings}
 use Rattle.lighting_outputs.specs.Paper.Slots.{slot_count, Slots, slots_of, put}
@@ -18,7 +18,7 @@ pub level_zero : IsLevel 0
 level_zero = record { least = omega arith; most = omega arith }
 
 pub clamp_lit_level : (p : Parameters) (c : Settings) (v : ℕ) → SettingsInRange p c → IsLevel (clamp_lit c v)
-unfolding clamp_lit if◌then◌else◌
+unfolding clamp_lit when◌then◌else◌
 clamp_lit_level p c v h = by_eq v 0 (λ z e. rw e level_zero) (λ z e. rw e (record { least = omega arith; most = omega arith }))
 
 pub present_level : (p : Parameters) (c : Settings) (s : Slots) → SettingsInRange p c → IsLevel (present_value c s)

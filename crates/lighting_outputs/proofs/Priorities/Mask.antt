@@ -13,26 +13,26 @@ use native.Mathlib.Numerals.{add-one}
 use lib.Count.{count_trailing_zeros}
 use lib.ListN.{set, get_or, length, length-set, get_or-eq_default}
 use Rattle.lighting_levels.proofs.Split.{by_eq, by_lt, by_bool, eqb_miss, leb_yes}
-use Rattle.lighting_levels.specs.Paper.Choice.{if◌then◌else◌}
+use Rattle.lighting_levels.specs.Paper.Choice.{when◌then◌else◌}
 use Rattle.lighting_levels.specs.Paper.Field.{bit_set}
 use Rattle.lighting_outputs.specs.Paper.Slots.{slot_count, Slots, view, slots_of, slot, put, first_live, winner, is_live, mask_emptied, mask_filled, level_set, level_at}
 
 length_view : (m : ℕ) (l : List ℕ) → length (view m l) ≡ length l
-unfolding view if◌then◌else◌
+unfolding view when◌then◌else◌
 length_view m [] = refl
 length_view m (v ∷ l) = ap suc (length_view (m / 2) l)
 
 -- a number made of a digit and the rest shows them
 view_digit : (m x d v : ℕ) (l : List ℕ) → m ≡ x * 2 + d → d < 2
-    → view m (v ∷ l) ≡ (if eqb d 1 then some v else none) ∷ view x l
-unfolding view if◌then◌else◌
+    → view m (v ∷ l) ≡ (when eqb d 1 then some v else none) ∷ view x l
+unfolding view when◌then◌else◌
 view_digit m x d v l p h =
     let e : m % 2 ≡ d = omega arith in
     let f : m / 2 ≡ x = omega arith in
     rw (e, f)
 
 view_or : (m i v : ℕ) (l : List ℕ) → view (bit_or m (2 ^ i)) (set l i v) ≡ set (view m l) i (some v)
-unfolding view if◌then◌else◌
+unfolding view when◌then◌else◌
 view_or m i v [] = refl
 view_or m zero v (w ∷ l) = view_digit (bit_or m 1) (m / 2) 1 v l (omega (arith, or_step m 1, or_zero_r (m / 2))) (omega arith)
 view_or m (suc i) v (w ∷ l) =
@@ -46,10 +46,10 @@ view_or m (suc i) v (w ∷ l) =
     (set l i v)
     (omega (arith, rw (e, f) at (or_step m (2 ^ suc i))))
     (omega arith)
-    ∙ ap (λ (z : List (Option ℕ)). (if eqb (m % 2) 1 then some w else none) ∷ z) (view_or (m / 2) i v l)
+    ∙ ap (λ (z : List (Option ℕ)). (when eqb (m % 2) 1 then some w else none) ∷ z) (view_or (m / 2) i v l)
 
 view_mod : (m n : ℕ) (l : List ℕ) → length l ≤ n → view (m % 2 ^ n) l ≡ view m l
-unfolding view if◌then◌else◌
+unfolding view when◌then◌else◌
 view_mod m n [] h = refl
 view_mod m zero (v ∷ l) h = absurd (omega arith)
 view_mod m (suc n) (v ∷ l) h =
@@ -61,12 +61,12 @@ view_mod m (suc n) (v ∷ l) h =
     l
     (omega (arith, rw (add-one n) at (mod-pow-add m n 1)))
     (omega arith)
-    ∙ ap (λ (z : List (Option ℕ)). (if eqb (m % 2) 1 then some v else none) ∷ z) (view_mod (m / 2) n l (omega arith))
+    ∙ ap (λ (z : List (Option ℕ)). (when eqb (m % 2) 1 then some v else none) ∷ z) (view_mod (m / 2) n l (omega arith))
 
 -- bit i cleared, and any level v left in its place
 view_and : (m i n v : ℕ) (l : List ℕ) → i < n → length l ≤ n
     → view (bit_and m ((2 ^ n - 1) - 2 ^ i)) (set l i v) ≡ set (view m l) i none
-unfolding view if◌then◌else◌
+unfolding view when◌then◌else◌
 view_and m i n v [] h k = refl
 view_and m i zero v (w ∷ l) h k = absurd (omega arith)
 view_and m zero (suc n) v (w ∷ l) h k =
@@ -95,17 +95,17 @@ view_and m (suc i) (suc n) v (w ∷ l) h k =
     (omega (arith, rw (e, f) at (and_step m ((2 ^ suc n - 1) - 2 ^ suc i))))
     (omega arith)
     ∙ ap
-    (λ (z : List (Option ℕ)). (if eqb (m % 2) 1 then some w else none) ∷ z)
+    (λ (z : List (Option ℕ)). (when eqb (m % 2) 1 then some w else none) ∷ z)
     (view_and (m / 2) i n v l (omega arith) (omega arith))
 
 -- A SLOT PUT: for the sixteen slots the guard never bites
 pub put_slots : (s : Slots) (i : ℕ) (x : Option ℕ) → length s.levels ≡ slot_count → i < slot_count → slots_of (put s i x) ≡ set (slots_of s) i x
-unfolding put slots_of mask_emptied mask_filled level_set if◌then◌else◌
+unfolding put slots_of mask_emptied mask_filled level_set when◌then◌else◌
 put_slots s i none h k = rw (leb_yes {a = suc i} {b = slot_count} k) (view_and s.live i slot_count 0 s.levels k (omega arith))
 put_slots s i (some v) h k = rw (leb_yes {a = suc i} {b = slot_count} k) (view_or s.live i v s.levels)
 
 set_size : (l : List ℕ) (i v : ℕ) → length (level_set l i v) ≡ length l
-unfolding level_set if◌then◌else◌
+unfolding level_set when◌then◌else◌
 set_size l i v = by_lt i slot_count (λ p e. rw e (length-set l i v)) (λ p e. rw e)
 
 pub put_size : (s : Slots) (i : ℕ) (x : Option ℕ) → length (put s i x).levels ≡ length s.levels
@@ -119,7 +119,7 @@ slots_size s = length_view s.live s.levels
 
 -- THE WINNER is what the trailing zeros of the mask say
 zeros_view : (n m : ℕ) (l : List ℕ) → length l ≡ n → count_trailing_zeros n m ≡ first_live (view m l)
-unfolding if◌then◌else◌ count_trailing_zeros view first_live
+unfolding when◌then◌else◌ count_trailing_zeros view first_live
 zeros_view n m [] h = rw (← h)
 zeros_view zero m (v ∷ l) h = absurd (omega arith)
 zeros_view (suc n) m (v ∷ l) h =
@@ -143,18 +143,18 @@ pub halved : (i m : ℕ) → m / 2 ^ suc i ≡ m / 2 / 2 ^ i
 halved i m = sym (shr-shr m 1 i ∙ ap (λ (k : ℕ). m / 2 ^ k) (omega arith))
 
 slot_view : (m i : ℕ) (l : List ℕ) → i < length l
-    → get_or (view m l) i none ≡ (if bit_set m i then some (get_or l i 0) else none)
+    → get_or (view m l) i none ≡ (when bit_set m i then some (get_or l i 0) else none)
 unfolding view
 slot_view m i [] h = absurd (omega arith)
 slot_view m zero (v ∷ l) h = rw (div-one m)
 slot_view m (suc i) (v ∷ l) h = rw (halved i m) (slot_view (m / 2) i l (omega arith))
 
-pub slot_is : (s : Slots) (i : ℕ) → i < length s.levels → slot s i ≡ (if is_live s i then some (get_or s.levels i 0) else none)
+pub slot_is : (s : Slots) (i : ℕ) → i < length s.levels → slot s i ≡ (when is_live s i then some (get_or s.levels i 0) else none)
 unfolding is_live slots_of
 slot_is s i h = slot_view s.live i s.levels h
 
 pub is_live_slot : (s : Slots) (i : ℕ) → i < length s.levels → is_live s i ≡ alive (slot s i)
-unfolding if◌then◌else◌
+unfolding when◌then◌else◌
 is_live_slot s i h = rw (slot_is s i h) (by_bool (is_live s i) (λ e. rw e) (λ e. rw e))
 
 pub dead_past : (m i : ℕ) → m < 65536 → slot_count ≤ i → bit_set m i ≡ false
@@ -182,14 +182,14 @@ tested width m i h =
 
 -- a live slot is one of the sixteen and holds its level; one that is not live holds nothing
 pub slot_live : (d : ℕ) (s : Slots) (i : ℕ) → length s.levels ≡ slot_count → s.live < 65536 → is_live s i ≡ true → slot s i ≡ some (level_at d s i)
-unfolding level_at if◌then◌else◌
+unfolding level_at when◌then◌else◌
 slot_live d s i size mask live =
     by_lt i slot_count
     (λ h e. rw (e, slot_is s i (omega arith), live))
     (λ h e. absurd (false≢true (sym (dead_past s.live i mask h) ∙ (unfold is_live in live))))
 
 pub slot_dead : (s : Slots) (i : ℕ) → length s.levels ≡ slot_count → is_live s i ≡ false → slot s i ≡ none
-unfolding if◌then◌else◌
+unfolding when◌then◌else◌
 slot_dead s i size dead =
     by_lt i slot_count
     (λ h e. rw (slot_is s i (omega arith), dead))

@@ -9,7 +9,7 @@ use native.Mathlib.Omega.{arith}
 use lib.Dec.{ltb}
 use lib.ListN.{set, get_or, length}
 use lib.Seq.{get_or-set_same, get_or-set_other}
-use Rattle.lighting_levels.specs.Paper.Choice.{if◌then◌else◌}
+use Rattle.lighting_levels.specs.Paper.Choice.{when◌then◌else◌}
 use Rattle.lighting_levels.proofs.Split.{by_eq, by_lt, leb_yes, leb_no}
 use Rattle.lighting_outputs.specs.Paper.Slots.{slot_count, slot6, Slots, view, slots_of, put, first_live, winner, is_live, level_at, winning_level}
 use Rattle.lighting_outputs.proofs.Priorities.Mask.{alive, is_live_slot, put_slots, put_size, slots_size}
@@ -23,8 +23,8 @@ suc_ltb : (a b : ℕ) → ltb (suc a) (suc b) ≡ ltb a b
 suc_ltb a b = by_lt a b (λ p e. rw e (leb_yes {a = suc (suc a)} {b = suc b} (omega arith))) (λ p e. rw e (leb_no {a = suc (suc a)} {b = suc b} (omega arith)))
 
 level_view : (d m : ℕ) (l : List ℕ)
-    → (if ltb (first_live (view m l)) (length l) then get_or l (first_live (view m l)) 0 else d) ≡ first_level d (view m l)
-unfolding view first_live first_level if◌then◌else◌
+    → (when ltb (first_live (view m l)) (length l) then get_or l (first_live (view m l)) 0 else d) ≡ first_level d (view m l)
+unfolding view first_live first_level when◌then◌else◌
 level_view d m [] = refl
 level_view d m (v ∷ l) =
     by_eq

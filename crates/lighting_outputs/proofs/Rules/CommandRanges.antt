@@ -5,7 +5,7 @@ use mathlib.Core.Logic.{◌≢◌}
 use Prim.Native.Nat.{ℕ, ◌≤◌}
 use native.Mathlib.Omega.{arith}
 use lib.Dec.{eqb}
-use Rattle.lighting_levels.specs.Paper.Choice.{if◌then◌else◌}
+use Rattle.lighting_levels.specs.Paper.Choice.{when◌then◌else◌}
 use Rattle.lighting_outputs.specs.Paper.Parameters.{Parameters}
 use Rattle.lighting_outputs.specs.Paper.Answers.{levelRefusal}
 use Rattle.lighting_levels.specs.Paper.Level.{level_of, amount_of}
@@ -44,13 +44,13 @@ real_fit (Real x) = (level_fit (level_of x), level_fit (amount_of x))
 real_fit NoReal = ((λ n. absurd (n refl)), (λ n. absurd (n refl)))
 
 time_fit : (p : Parameters) (x : TimeField) → Fit (time_field_refusal p x)
-unfolding time_field_refusal if◌then◌else◌
+unfolding time_field_refusal when◌then◌else◌
 time_fit p (Time l) =
     by_bool (meets (row_of p FadeTime) l) (λ e. rw e (λ n. absurd (n refl))) (λ e. rw e (λ n. omega arith))
 time_fit p NoTime = λ n. absurd (n refl)
 
 first_fit : (a b : ℕ) → Fit a → Fit b → Fit (first_refusal a b)
-unfolding first_refusal if◌then◌else◌
+unfolding first_refusal when◌then◌else◌
 first_fit a b f g = by_eq a 0 (λ y e. rw e g) (λ y e. rw e f)
 
 pub fields_fit : (p : Parameters) (f : OperationFields) → Fit (fields_refusal p f)
@@ -61,7 +61,7 @@ fields_fit p f =
 
 -- with none met, no field met one
 first_none : (a b : ℕ) → first_refusal a b ≡ 0 → (a ≡ 0) × (b ≡ 0)
-unfolding first_refusal if◌then◌else◌
+unfolding first_refusal when◌then◌else◌
 first_none a b = by_eq a 0 (λ y e. rw e (λ h. (y, h))) (λ y e. rw e (λ h. absurd (y h)))
 
 pub record NoneMet (p : Parameters) (f : OperationFields) : Type 0 where
@@ -79,7 +79,7 @@ none_met p f h =
     record { level = level.0; rate = rate.0; step = step.0; fade = step.1 }
 
 time_good : (p : Parameters) (l : ℕ) → time_field_refusal p (Time l) ≡ 0 → meets (row_of p FadeTime) l ≡ true
-unfolding time_field_refusal if◌then◌else◌
+unfolding time_field_refusal when◌then◌else◌
 time_good p l =
     by_bool (meets (row_of p FadeTime) l) (λ e. rw e (λ h. refl)) (λ e. rw e (λ h. absurd (omega arith)))
 
@@ -99,14 +99,14 @@ operation_good p (Goto x) h = tt
 operation_good p Relinquish h = tt
 
 command_with_duration_good : (p : Parameters) (o : Operation) (duration : TimeField) → OperationInRange p o → RequestInRange p (command_with_duration p o duration)
-unfolding command_with_duration command_lasting if◌then◌else◌
+unfolding command_with_duration command_lasting when◌then◌else◌
 command_with_duration_good p o (Time d) g =
     by_bool (eqb d 0) (λ e. rw e ((g, tt))) (λ e. rw e
     (by_bool (within 100 p.duration d) (λ e. rw e ((g, within_of 100 p.duration d e))) (λ e. rw e (omega arith))))
 command_with_duration_good p o NoTime g = (g, tt)
 
 pub command_of_good : (p : Parameters) (o : Operation) (duration : TimeField) → RequestInRange p (command_of p o duration)
-unfolding command_of command_request_by if◌then◌else◌
+unfolding command_of command_request_by when◌then◌else◌
 command_of_good p o duration =
     by_eq
     (fields_refusal p (fields_of o))
@@ -133,7 +133,7 @@ refused_never k h = let z : ◌≡◌ {A = ℕ} 0 1 = cc in omega arith
 
 durations : (p : Parameters) (o : Operation) (duration : TimeField) (k : Command) → command_with_duration p o duration ≡ ToOutput (Commands k)
     → (k.operation ≡ o) × (duration_field k.duration ≡ duration)
-unfolding command_with_duration command_lasting duration_field if◌then◌else◌
+unfolding command_with_duration command_lasting duration_field when◌then◌else◌
 durations p o (Time d) k =
     by_eq d 0
     (λ z e. rw e (λ h. let q = asked_for k h in (q.0, q.1 ∙ ap Time (sym z))))
@@ -141,7 +141,7 @@ durations p o (Time d) k =
 durations p o NoTime k = λ h. asked_for k h
 
 pub command_taken : (p : Parameters) (o : Operation) (duration : TimeField) (k : Command) → command_of p o duration ≡ ToOutput (Commands k) → Taken p o duration k
-unfolding command_of command_request_by if◌then◌else◌
+unfolding command_of command_request_by when◌then◌else◌
 command_taken p o duration k =
     by_eq (fields_refusal p (fields_of o)) 0
     (λ z e. rw e (λ h. let d = durations p o duration k h in record { ranges = z; operation = d.0; lasting = d.1 }))

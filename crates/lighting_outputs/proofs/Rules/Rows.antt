@@ -6,7 +6,7 @@ use Prim.Native.Nat.{ℕ, ◌+◌, ◌-◌, ◌≤◌, ◌<◌, max}
 use native.Mathlib.Omega.{arith}
 use native.Mathlib.Nat.{add-sub_cancel_left}
 use lib.Dec.{leb, ltb, eqb}
-use Rattle.lighting_levels.specs.Paper.Choice.{if◌then◌else◌}
+use Rattle.lighting_levels.specs.Paper.Choice.{when◌then◌else◌}
 use Rattle.lighting_outputs.specs.Paper.Parameters.{Parameters}
 use Rattle.lighting_levels.specs.Paper.Level.{real, level_of, limit_of}
 use Rattle.lighting_outputs.specs.Paper.Rows.{row_of, within, is_amount, is_priority}
@@ -28,7 +28,7 @@ use Rattle.lighting_outputs.specs.Paper.Slots.{slot_count}
 
 -- A WRITE's request is good, by the row
 pub priority_of : (n : ℕ) → is_priority n ≡ true → Slot (n - 1)
-unfolding is_priority if◌then◌else◌
+unfolding is_priority when◌then◌else◌
 priority_of n h = by_eq n 0 (λ z e. absurd (false≢true (rw e at h))) (λ z e. slot_of (n - 1) (rw e at h))
 
 to_good : (p : Parameters) (n : Property) (l : Level)
@@ -39,7 +39,7 @@ to_good p n OutOfRange f = omega arith
 
 row_good : (p : Parameters) (r : Range) (n : Property) (x : ℕ)
     → ((v : ℕ) → Meets r v → RequestInRange p (ToOutput (Change n v))) → RequestInRange p (change_by r n x)
-unfolding change_by if◌then◌else◌
+unfolding change_by when◌then◌else◌
 row_good p Percent n x f = to_good p n (level_of (real x)) (λ v e. let u = level_units_lem (real x) v e in f v (record { least = u.0; most = u.1 }))
 row_good p Limit n x f = to_good p n (limit_of (real x)) (λ v e. let u = limit_units (real x) v e in f v (record { least = u.0; most = u.1 }))
 row_good p Amount n x f = by_bool (is_amount (real x)) (λ e. rw e (f x e)) (λ e. rw e (omega arith))
@@ -54,7 +54,7 @@ change_good p n x = row_good p (row_of p n) n x (λ v m. m)
 -- THE NUMBER AND THE TABLE of properties say the same: by its number a property is found again, unless it is
 -- a slot past the sixteenth
 by_number : {P : Type 0} (n : Property) → (property_of (number_of n) ≡ n → P) → ((i : ℕ) → slot_count ≤ i → n ≡ SlotValue i → P) → P
-unfolding property_of numbered if◌then◌else◌
+unfolding property_of numbered when◌then◌else◌
 by_number RelinquishDefault found past = found refl
 by_number FadeTime found past = found refl
 by_number RampRate found past = found refl
@@ -98,7 +98,7 @@ most [] = 0
 most (x ∷ l) = max (number_of x) (most l)
 
 past_most : (l : List Property) (n : ℕ) → most l < n → numbered l n ≡ Unknown
-unfolding numbered if◌then◌else◌
+unfolding numbered when◌then◌else◌
 past_most [] n h = refl
 past_most (x ∷ l) n h = rw (eqb_miss {a = n} {b = number_of x} (omega arith)) (past_most l n (omega arith))
 
@@ -115,13 +115,13 @@ same_is n m low h =
 
 -- and a number's property has that number, unless it is unknown
 by_numbered : {P : Type 0} (l : List Property) (n : ℕ) → (number_of (numbered l n) ≡ n → P) → (numbered l n ≡ Unknown → P) → P
-unfolding numbered if◌then◌else◌
+unfolding numbered when◌then◌else◌
 by_numbered [] n found past = past refl
 by_numbered (x ∷ l) n found past =
     by_eq n (number_of x) (λ h e. found (rw e (sym h))) (λ h e. by_numbered l n (λ k. found (rw e k)) (λ k. past (rw e k)))
 
 by_property : {P : Type 0} (n : ℕ) → (number_of (property_of n) ≡ n → P) → (property_of n ≡ Unknown → P) → P
-unfolding property_of if◌then◌else◌
+unfolding property_of when◌then◌else◌
 by_property n found past =
     by_le 0x21 n
     (λ h e. by_bool (leb n 0x30) (λ e'. found (rw (e, e') (omega arith))) (λ e'. past (rw (e, e'))))
@@ -149,7 +149,7 @@ row_number : (p : Parameters) (n : Property) → row_of p (property_of (number_o
 row_number p n = by_number n (λ e. ap (row_of p) e) (λ i l q. rw q (beyond i))
   where
     beyond : (i : ℕ) → row_of p (property_of (number_of (SlotValue i))) ≡ ReadOnly
-    beyond i = unfold property_of numbered if◌then◌else◌ in (rw (leb_yes {a = 0x21} {b = 0x21 + i} (omega arith)) (by_bool (leb (0x21 + i) 0x30) (λ e. rw e) (λ e. rw e)))
+    beyond i = unfold property_of numbered when◌then◌else◌ in (rw (leb_yes {a = 0x21} {b = 0x21 + i} (omega arith)) (by_bool (leb (0x21 + i) 0x30) (λ e. rw e) (λ e. rw e)))
 
 pub same_row : (p : Parameters) (n m : Property) → same n m ≡ true → row_of p n ≡ row_of p m
 unfolding same
@@ -157,8 +157,8 @@ same_row p n m h =
     sym (row_number p n) ∙ ap (λ (k : ℕ). row_of p (property_of k)) (eq_of h) ∙ row_number p m
 
 -- OF A SET a row reads the longest fade alone, and that in Fade_Time's
-pub row_reads : (p q : Parameters) (n : Property) → row_of p n ≡ (if same FadeTime n then Whole 100 p.fade else row_of q n)
-unfolding same if◌then◌else◌
+pub row_reads : (p q : Parameters) (n : Property) → row_of p n ≡ (when same FadeTime n then Whole 100 p.fade else row_of q n)
+unfolding same when◌then◌else◌
 row_reads p q RelinquishDefault = refl
 row_reads p q FadeTime = refl
 row_reads p q RampRate = refl
@@ -189,6 +189,6 @@ row_reads p q Unknown = refl
 
 -- A FIELD that takes the value of a write of its own property keeps its row
 pub kept_met : (p : Parameters) (field n : Property) (v old : ℕ) → Meets (row_of p n) v → Meets (row_of p field) old
-    → Meets (row_of p field) (if same field n then v else old)
-unfolding if◌then◌else◌
+    → Meets (row_of p field) (when same field n then v else old)
+unfolding when◌then◌else◌
 kept_met p field n v old g h = by_bool (same field n) (λ e. rw e (rw (same_row p field n e) g)) (λ e. rw e h)

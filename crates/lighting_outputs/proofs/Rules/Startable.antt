@@ -2,7 +2,7 @@
 use mathlib.Core.Path.{◌≡◌}
 use mathlib.Core.Bool.{true}
 use Prim.Native.Nat.{ℕ, ◌≤◌}
-use Rattle.lighting_levels.specs.Paper.Choice.{if◌then◌else◌}
+use Rattle.lighting_levels.specs.Paper.Choice.{when◌then◌else◌}
 use Rattle.lighting_outputs.specs.Paper.Parameters.{Parameters, four_hours}
 use Rattle.lighting_outputs.specs.Paper.Rows.{within}
 use Rattle.lighting_outputs.specs.Paper.Startable.{most_stations, most_outputs, least_time, most_fade, most_duration, startable}
@@ -22,5 +22,5 @@ startable_of p h = search (parts, within_of)
 
 -- the old panel's set is one (§7), for every count of outputs that it allows
 pub four_hours_startable : (outputs : ℕ) → 1 ≤ outputs → outputs ≤ 64 → startable (four_hours outputs) ≡ true
-unfolding startable within if◌then◌else◌
+unfolding startable within when◌then◌else◌
 four_hours_startable outputs least most = rw (leb_yes {a = 1} {b = outputs} least, leb_yes {a = outputs} {b = 64} most)

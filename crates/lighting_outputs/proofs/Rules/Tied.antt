@@ -7,7 +7,7 @@ use native.Mathlib.Nat.{sub_self}
 use native.Mathlib.Omega.{arith}
 use lib.ListN.{length, get_or}
 use borrow.Author.Tests.{not-true}
-use Rattle.lighting_levels.specs.Paper.Choice.{if◌then◌else◌}
+use Rattle.lighting_levels.specs.Paper.Choice.{when◌then◌else◌}
 use Rattle.lighting_levels.proofs.Split.{unless, by_eq, by_bool, le_of, leb_yes, eqb_miss, parts, tests}
 use Rattle.lighting_levels.proofs.Scan.{all_each, each_all}
 use Rattle.lighting_outputs.specs.declared.Settings.{Settings}
@@ -39,12 +39,12 @@ unfolding within
 within_of low high v h = search parts
 
 pub level_of_lem : (v : ℕ) → is_level v ≡ true → IsLevel v
-unfolding is_level if◌then◌else◌
+unfolding is_level when◌then◌else◌
 level_of_lem v h =
     by_eq v 0 (λ z e. omega arith) (λ z e. let w = within_of least_level greatest_level v (rw e at h) in omega arith)
 
 pub slot_of : (i : ℕ) → is_slot i ≡ true → Slot i
-unfolding is_slot if◌then◌else◌
+unfolding is_slot when◌then◌else◌
 slot_of i h =
     by_eq i slot6 (λ z e. absurd (false≢true (rw e at h))) (λ z e. record { inside = le_of (rw e at h); free = z })
 
@@ -68,7 +68,7 @@ filled_of s size h =
   where
     at : (i : ℕ) → i < slot_count → slot_sound s i ≡ true → SlotLevel (slot s i)
     at i k e =
-        rw (slot_is s i (omega arith)) (unfold slot_sound if◌then◌else◌ in
+        rw (slot_is s i (omega arith)) (unfold slot_sound when◌then◌else◌ in
         (by_bool (is_live s i) (λ z. rw z (level_of_lem (get_or s.levels i 0) (rw z at e))) (λ z. rw z tt)))
 
 moves_of : (p : Parameters) (t : ℕ) (c : Settings) (s : Slots) (m : Movement) → is_live s slot6 ≡ false
@@ -88,7 +88,7 @@ timed_of t Off h = tt
 timed_of t (Running slot due) h = search (parts, slot_of)
 
 agrees_of : (one other : Bool) → agrees one other ≡ true → one ≡ other
-unfolding agrees if◌then◌else◌
+unfolding agrees when◌then◌else◌
 agrees_of true other h = sym h
 agrees_of false other h = sym (not-true other h)
 
@@ -116,12 +116,12 @@ unfolding within
 within_yes low high v h = search tests
 
 level_yes : (v : ℕ) → IsLevel v → is_level v ≡ true
-unfolding is_level if◌then◌else◌
+unfolding is_level when◌then◌else◌
 level_yes v h =
     by_eq v 0 (λ z e. rw e) (λ z e. rw e (within_yes least_level greatest_level v (omega arith)))
 
 slot_yes : (i : ℕ) → Slot i → is_slot i ≡ true
-unfolding is_slot if◌then◌else◌
+unfolding is_slot when◌then◌else◌
 slot_yes i h = rw (eqb_miss h.free) (leb_yes h.inside)
 
 settings_yes : (p : Parameters) (c : Settings) → SettingsInRange p c → settings_sound p c ≡ true
@@ -133,7 +133,7 @@ unfolding slots_sound
 filled_yes s h = each_all (slot_sound s) slot_count 0 (λ i z k. at i (omega arith) (h.level i (omega arith)))
   where
     at : (i : ℕ) → i < slot_count → SlotLevel (slot s i) → slot_sound s i ≡ true
-    at i k l = unfold slot_sound if◌then◌else◌ in
+    at i k l = unfold slot_sound when◌then◌else◌ in
         (by_bool
         (is_live s i)
         (λ z. rw z (level_yes (get_or s.levels i 0) (rw z at (rw (slot_is s i (omega (arith, h.size))) at l))))
@@ -147,7 +147,7 @@ moves_yes p t c s m h = search (tests, within_yes) depth 12
 acts_yes : (p : Parameters) (t : ℕ) (c : Settings) (s : Slots) (a : Activity) → Acts p t c s a → activity_sound p t c s a ≡ true
 unfolding activity_sound activity_by warning_sound warning_by
 acts_yes p t c s Still h = rw h
-acts_yes p t c s (Moving m) h = unfold if◌then◌else◌ in rw h.six (moves_yes p t c s m h)
+acts_yes p t c s (Moving m) h = unfold when◌then◌else◌ in rw h.six (moves_yes p t c s m h)
 acts_yes p t c s (Warned w) h = search (tests, within_yes, level_yes)
 
 timed_yes : (t : ℕ) (m : Timer) → Timed t m → timer_sound t m ≡ true
@@ -156,7 +156,7 @@ timed_yes t Off h = refl
 timed_yes t (Running slot due) h = search (tests, slot_yes)
 
 agrees_yes : (one other : Bool) → one ≡ other → agrees one other ≡ true
-unfolding agrees if◌then◌else◌
+unfolding agrees when◌then◌else◌
 agrees_yes true other h = sym h
 agrees_yes false other h = rw (sym h)
 

@@ -3,7 +3,7 @@
 use mathlib.Core.Path.{◌≡◌, sym}
 use Prim.Native.Nat.{ℕ}
 use lib.Dec.{leb}
-use Rattle.lighting_levels.specs.Paper.Choice.{if◌then◌else◌}
+use Rattle.lighting_levels.specs.Paper.Choice.{when◌then◌else◌}
 use Rattle.lighting_outputs.specs.Paper.Value.{present_value}
 use Rattle.lighting_outputs.specs.Paper.Relay.{binary_at, switched}
 use Rattle.lighting_outputs.specs.Paper.Record.{with_burning}
@@ -15,7 +15,7 @@ use Rattle.lighting_outputs.proofs.Rules.Facts.{Judged}
 
 -- of any relay, and any Present_Value
 binary_at_again : (v : ℕ) (r : Relay) → binary_at v (switched v r) ≡ binary_at v r
-unfolding binary_at switched if◌then◌else◌
+unfolding binary_at switched when◌then◌else◌
 binary_at_again v r =
     by_bool
     (leb r.active v)

@@ -7,7 +7,7 @@ use Prim.Native.Nat.{ℕ, zero, suc, ◌+◌, ◌-◌, ◌*◌, ◌/◌, ◌≤�
 use native.Mathlib.Nat.{zero-add, zero-mul, zero-div, div-zero, mul_comm, le-div_iff_mul-le, div-lt_iff_lt-mul}
 use native.Mathlib.Omega.{arith}
 use lib.Dec.{ltb, eqb}
-use Rattle.lighting_levels.specs.Paper.Choice.{if◌then◌else◌}
+use Rattle.lighting_levels.specs.Paper.Choice.{when◌then◌else◌}
 use Rattle.lighting_outputs.specs.Paper.Value.{present_value, elapsed, distance_moved, reached_by, reached, progress_by, progress_value, lit, in_process}
 use Rattle.lighting_outputs.specs.Paper.Passing.{lit_milliseconds}
 use Rattle.lighting_outputs.specs.Engine.Light.{last_short, moment_after, gone_at, count_before, count_since, lit_from_zero, lit_from_light, lit_at, lit_by_pace, lit_moving, lit_in_movement, lit_resting, lit_stretch}
@@ -28,7 +28,7 @@ is_before t Never = true
 is_before t (At moment) = ltb t moment
 
 count_until : (from n : ℕ) (o : Output) (turn : Moment) → ((t : ℕ) → lit t o ≡ is_before t turn) → lit_milliseconds from n o ≡ count_before from n turn
-unfolding lit_milliseconds count_before if◌then◌else◌
+unfolding lit_milliseconds count_before when◌then◌else◌
 count_until from zero o Never h = refl
 count_until from zero o (At moment) h = omega arith
 count_until from (suc n) o Never h = rw (h from, count_until (suc from) n o Never h) (omega arith)
@@ -38,7 +38,7 @@ count_until from (suc n) o (At moment) h =
     (λ l e. rw (h from, e, count_until (suc from) n o (At moment) h) (omega arith))
 
 count_since_lem : (from n : ℕ) (o : Output) (turn : Moment) → ((t : ℕ) → lit t o ≡ not (is_before t turn)) → lit_milliseconds from n o ≡ count_since from n turn
-unfolding lit_milliseconds count_since if◌then◌else◌
+unfolding lit_milliseconds count_since when◌then◌else◌
 count_since_lem from zero o Never h = refl
 count_since_lem from zero o (At moment) h = omega arith
 count_since_lem from (suc n) o Never h = rw (h from, count_since_lem (suc from) n o Never h) (omega arith)
@@ -66,7 +66,7 @@ gone u s w k q i h =
 
 -- THE MOMENT from which on they are gone
 gone_at_lem : (u s w t : ℕ) (m : Movement) → 0 < u → (0 < m.length → 0 < w) → is_before t (gone_at u s w m) ≡ ltb (s * elapsed t m / w) u
-unfolding gone_at moment_after if◌then◌else◌
+unfolding gone_at moment_after when◌then◌else◌
 gone_at_lem u s w t m p h =
     by_eq s 0
     (λ q e. rw (e, q, zero-mul (elapsed t m), zero-div w) (sym (leb_yes {a = 1} {b = u} p)))
@@ -114,13 +114,13 @@ left_over v x =
 
 -- A MOVEMENT of an output: from 0 it stands at the way that it has gone, and to 0 at what is left of it
 from_zero : (m : Movement) (k : ℕ) → m.start ≡ 0 → reached_by m k ≡ distance_moved m.pace m.target m.length k
-unfolding reached_by if◌then◌else◌
+unfolding reached_by when◌then◌else◌
 from_zero m k z =
     let e : m.target - 0 ≡ m.target = omega arith in
     rw (z, leb_yes {a = 0} {b = m.target} (omega arith), zero-add (distance_moved m.pace (m.target - 0) m.length k), e)
 
 to_zero : (m : Movement) (k : ℕ) → 0 < m.start → m.target ≡ 0 → reached_by m k ≡ m.start - distance_moved m.pace m.start m.length k
-unfolding reached_by if◌then◌else◌
+unfolding reached_by when◌then◌else◌
 to_zero m k h g = let e : m.start - 0 ≡ m.start = omega arith in rw (g, leb_no {a = m.start} {b = 0} h, e)
 
 module _ (o : Output) (m : Movement) (moves : o.activity ≡ Moving m) where
@@ -146,7 +146,7 @@ module _ (o : Output) (m : Movement) (moves : o.activity ≡ Moving m) where
 
   -- between levels above 0, and from 0 to 0
   always : (t : ℕ) → 0 < m.start → 0 < m.target → lit t o ≡ true
-  unfolding reached_by if◌then◌else◌
+  unfolding reached_by when◌then◌else◌
   always t h g =
       lit_moving_lem t
       ∙ by_le m.start m.target
@@ -166,7 +166,7 @@ module _ (o : Output) (m : Movement) (moves : o.activity ≡ Moving m) where
 
   -- whatever its pace, from 0, to 0 or neither
   counted_at : (s w from n : ℕ) → Goes s w (max m.start m.target) m → lit_at s w from n m ≡ lit_milliseconds from n o
-  unfolding lit_at lit_from_zero lit_from_light count_before count_since if◌then◌else◌
+  unfolding lit_at lit_from_zero lit_from_light count_before count_since when◌then◌else◌
   counted_at s w from n goes =
       by_eq m.start 0
       (λ z e. rw e
@@ -195,7 +195,7 @@ unfolding lit
 lit_resting_lem t v o e = ap (ltb 0) e
 
 counted_resting : (from n v : ℕ) (o : Output) → ((t : ℕ) → progress_value t o ≡ v) → lit_resting n v ≡ lit_milliseconds from n o
-unfolding lit_resting count_before count_since if◌then◌else◌
+unfolding lit_resting count_before count_since when◌then◌else◌
 counted_resting from n v o h =
     by_lt 0 v
     (λ l e. rw e (sym (count_until from n o Never (λ t. lit_resting_lem t v o (h t) ∙ e))))
@@ -207,7 +207,7 @@ unfolding lit_stretch
 counted from n o = go o.activity refl
   where
     go : (a : Activity) → o.activity ≡ a
-        → (if eqb (in_process a) 1 then lit_in_movement from n a else lit_resting n (present_value o.settings o.slots)) ≡ lit_milliseconds from n o
-    go Still e = unfold in_process if◌then◌else◌ in (counted_resting from n _ o (λ t. unfold progress_value progress_by in (rw e)))
-    go (Moving m) e = unfold in_process lit_in_movement if◌then◌else◌ in (counted_moving o m e from n)
-    go (Warned w) e = unfold in_process if◌then◌else◌ in (counted_resting from n _ o (λ t. unfold progress_value progress_by in (rw e)))
+        → (when eqb (in_process a) 1 then lit_in_movement from n a else lit_resting n (present_value o.settings o.slots)) ≡ lit_milliseconds from n o
+    go Still e = unfold in_process when◌then◌else◌ in (counted_resting from n _ o (λ t. unfold progress_value progress_by in (rw e)))
+    go (Moving m) e = unfold in_process lit_in_movement when◌then◌else◌ in (counted_moving o m e from n)
+    go (Warned w) e = unfold in_process when◌then◌else◌ in (counted_resting from n _ o (λ t. unfold progress_value progress_by in (rw e)))

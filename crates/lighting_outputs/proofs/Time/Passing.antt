@@ -12,7 +12,7 @@ use Prim.Native.Nat.{ℕ, zero, suc, ◌+◌, ◌-◌, ◌≤◌, ◌<◌, min}
 use native.Mathlib.Nat.{zero-add, add-zero, suc-add, sub_self, add_assoc}
 use native.Mathlib.Omega.{arith}
 use lib.Dec.{eqb}
-use Rattle.lighting_levels.specs.Paper.Choice.{if◌then◌else◌, Every}
+use Rattle.lighting_levels.specs.Paper.Choice.{when◌then◌else◌, Every}
 use Rattle.lighting_outputs.proofs.Time.Light.{counted}
 use Rattle.lighting_outputs.proofs.Rules.Facts.{Judged}
 use Rattle.lighting_outputs.proofs.Time.Judged.{judged_stays, with_burning_judged, fire_judged}
@@ -65,7 +65,7 @@ not_due t Never a = refl
 not_due t (At d) a = eqb_miss {a = d} {b = t} (omega arith)
 
 idle : (t : ℕ) (o : Output) → is_due t (timer_due o.timer) ≡ false → is_due t (activity_due o.activity) ≡ false → fire t o ≡ after_events o
-unfolding fire timer_at expired end_movement_on_expiry activity_at slots_at if◌then◌else◌
+unfolding fire timer_at expired end_movement_on_expiry activity_at slots_at when◌then◌else◌
 idle t o p q = rw (p, q)
 
 -- but that the plain panel judges
@@ -77,11 +77,11 @@ quiet t o a j = only_judges t o a ∙ judged_stays o j
 
 -- and the engine does not
 pub fire_due_quiet : (t : ℕ) (o : Output) → After t o → fire_due t o ≡ o
-unfolding fire_due if◌then◌else◌
+unfolding fire_due when◌then◌else◌
 fire_due_quiet t o a = rw (not_due t (timer_due o.timer) a.all.0, not_due t (activity_due o.activity) a.all.1.0)
 
 fire_due_fire : (t : ℕ) (o : Output) → Judged o → fire_due t o ≡ fire t o
-unfolding fire_due if◌then◌else◌
+unfolding fire_due when◌then◌else◌
 fire_due_fire t o j =
     by_bool
     (is_due t (timer_due o.timer))
@@ -109,20 +109,20 @@ pub both_after : (t : ℕ) (o : Output) → TimerAfter t o.timer → MomentAfter
 both_after t o a b = record { all = (timer_moment t o.timer a, (b, tt)) }
 
 pub timer_quiet : (t : ℕ) (m : Timer) → TimerAfter t m → timer_at t m ≡ m
-unfolding timer_at if◌then◌else◌
+unfolding timer_at when◌then◌else◌
 timer_quiet t m a = rw (not_due t (timer_due m) (timer_moment t m a))
 
 pub expired_quiet : (t : ℕ) (m : Timer) (s : Slots) → TimerAfter t m → expired t m s ≡ s
-unfolding expired if◌then◌else◌
+unfolding expired when◌then◌else◌
 expired_quiet t m s a = rw (not_due t (timer_due m) (timer_moment t m a))
 
 pub end_movement_on_expiry_quiet : (t : ℕ) (m : Timer) (a : Activity) → TimerAfter t m → end_movement_on_expiry t m a ≡ a
-unfolding end_movement_on_expiry if◌then◌else◌
+unfolding end_movement_on_expiry when◌then◌else◌
 end_movement_on_expiry_quiet t m a h = rw (not_due t (timer_due m) (timer_moment t m h))
 
 -- BURNING: of n milliseconds at most n, of none none, and stretches add up
 pub lit_milliseconds_le : (from n : ℕ) (o : Output) → lit_milliseconds from n o ≤ n
-unfolding lit_milliseconds if◌then◌else◌
+unfolding lit_milliseconds when◌then◌else◌
 lit_milliseconds_le from zero o = omega arith
 lit_milliseconds_le from (suc n) o =
     by_bool
@@ -153,7 +153,7 @@ lit_milliseconds_split from zero b o = rw (add-zero from, zero-add b, zero-add (
 lit_milliseconds_split from (suc a) b o =
     let k : from + suc a ≡ suc from + a = omega arith in
     let n : suc a + b ≡ suc (a + b) = omega arith in
-    rw (k, n, ← lit_milliseconds_split (suc from) a b o) (add_assoc (if lit from o then 1 else 0) (lit_milliseconds (suc from) a o) (lit_milliseconds (suc from + a) b o))
+    rw (k, n, ← lit_milliseconds_split (suc from) a b o) (add_assoc (when lit from o then 1 else 0) (lit_milliseconds (suc from) a o) (lit_milliseconds (suc from + a) b o))
 
 lit_milliseconds_add : (from a b : ℕ) (o : Output) → lit_milliseconds from a o + lit_milliseconds (from + a) b (with_burned from a o) ≡ lit_milliseconds from (a + b) o
 unfolding with_burned
@@ -226,7 +226,7 @@ not_yet n t (At d) p a e = by_eq d t (λ q e'. absurd (false≢true (sym e ∙ e
 
 -- a duration leaves what is under way, or ends it
 end_movement_on_expiry_either : (P : Activity → Type 0) (t : ℕ) (m : Timer) (a : Activity) → P Still → P a → P (end_movement_on_expiry t m a)
-unfolding end_movement_on_expiry if◌then◌else◌
+unfolding end_movement_on_expiry when◌then◌else◌
 end_movement_on_expiry_either P t m a s h = by_bool (is_due t (timer_due m)) (λ e. rw e (by_timer m)) (λ e. rw e h)
   where
     by_owner : (q : ℕ) (b : Activity) → P b → P (end_movement_of q b)
@@ -239,7 +239,7 @@ end_movement_on_expiry_either P t m a s h = by_bool (is_due t (timer_due m)) (λ
     by_timer (Running q d) = unfold end_movement_by in by_owner q a h
 
 phase_after : (t : ℕ) (w : Warning) (p : Phase) → eqb (phase_end w p) t ≡ true → MomentAfter t (activity_due (next_phase w p))
-unfolding phase_end next_phase delayed activity_due if◌then◌else◌
+unfolding phase_end next_phase delayed activity_due when◌then◌else◌
 phase_after t w Blink h =
     by_lt w.turn w.over (λ l e. rw e (omega (arith, eq_of {a = w.turn} {b = t} h))) (λ l e. rw e tt)
 phase_after t w Delay h = tt
@@ -255,7 +255,7 @@ unfolding fire after_events
 fire_after t o a = record { all = (timer, (activity (end_movement_on_expiry (suc t) o.timer o.activity) unchanged, tt)) }
   where
     timer : MomentAfter (suc t) (timer_due (timer_at (suc t) o.timer))
-    timer = unfold timer_at if◌then◌else◌ in
+    timer = unfold timer_at when◌then◌else◌ in
         (by_bool
         (is_due (suc t) (timer_due o.timer))
         (λ e. rw e (unfold timer_due in tt))
@@ -272,7 +272,7 @@ fire_after t o a = record { all = (timer, (activity (end_movement_on_expiry (suc
         a.all.1.0
 
     activity : (b : Activity) → MomentAfter t (activity_due b) → MomentAfter (suc t) (activity_due (activity_at (suc t) b))
-    activity b h = unfold activity_at if◌then◌else◌ in
+    activity b h = unfold activity_at when◌then◌else◌ in
         (by_bool
         (is_due (suc t) (activity_due b))
         (λ e. rw e (next_after (suc t) b e))
@@ -335,12 +335,12 @@ next_fewer t (Moving m) h = omega arith
 next_fewer t (Warned w) h = phase w.phase
   where
     phase : (p : Phase) → suc (count_act (next_phase w p)) ≤ 1 + phases p
-    phase Blink = unfold next_phase delayed if◌then◌else◌ in
+    phase Blink = unfold next_phase delayed when◌then◌else◌ in
         (by_lt w.turn w.over (λ l e. rw e (omega arith)) (λ l e. rw e (omega arith)))
     phase Delay = unfold next_phase in (omega arith)
 
 act_fewer : (t : ℕ) (a : Activity) → count_act (activity_at t a) ≤ count_act a
-unfolding activity_at if◌then◌else◌
+unfolding activity_at when◌then◌else◌
 act_fewer t a =
     by_bool (is_due t (activity_due a)) (λ e. rw e (omega (arith, next_fewer t a e))) (λ e. rw e (omega arith))
 
@@ -401,7 +401,7 @@ next_event_step now to o l a j =
 
 -- at the next due moment something is due: one fewer is to come
 event_step_fewer : (n d from k to : ℕ) (o : Output) → d ≡ suc n → After n o → due to o ≡ d → d < to → suc (count (fire d (with_burned from k o))) ≤ count o
-unfolding fire after_events with_burned with_burning timer_at if◌then◌else◌
+unfolding fire after_events with_burned with_burning timer_at when◌then◌else◌
 event_step_fewer n d from k to o p a q h =
     by_bool
     (is_due d (timer_due o.timer))

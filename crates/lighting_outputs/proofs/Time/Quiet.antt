@@ -7,7 +7,7 @@ use native.Mathlib.Omega.{arith}
 use Rattle.lighting_outputs.specs.Engine.Advance.{greatest_count, burned_by, with_burned_saturating, event_step, event_steps, advance, later}
 use Rattle.lighting_outputs.specs.Paper.Record.{with_burning}
 use lib.Dec.{eqb}
-use Rattle.lighting_levels.specs.Paper.Choice.{if◌then◌else◌}
+use Rattle.lighting_levels.specs.Paper.Choice.{when◌then◌else◌}
 use Rattle.lighting_outputs.specs.Paper.Value.{present_value, in_process}
 use Rattle.lighting_outputs.specs.Engine.Light.{lit_in_movement, lit_resting, lit_stretch}
 use Rattle.lighting_outputs.specs.declared.Output.{Output}
@@ -62,10 +62,10 @@ advance_later now to x o r f e t c h = h ∙ ap (λ (n : ℕ). burned_by n o) (s
 -- and what is counted: by the movement, or by Present_Value alone. g is whether the output moves
 pub stretch_moving : (from n : ℕ) (o : Output) (g : Bool) → g ≡ eqb (in_process o.activity) 1 → g ≡ true
     → lit_stretch from n o ≡ lit_in_movement from n o.activity
-unfolding lit_stretch if◌then◌else◌
+unfolding lit_stretch when◌then◌else◌
 stretch_moving from n o g d u = rw (sym d ∙ u)
 
 pub stretch_resting : (from n : ℕ) (o : Output) (g : Bool) → g ≡ eqb (in_process o.activity) 1 → g ≡ false
     → lit_stretch from n o ≡ lit_resting n (present_value o.settings o.slots)
-unfolding lit_stretch if◌then◌else◌
+unfolding lit_stretch when◌then◌else◌
 stretch_resting from n o g d u = rw (sym d ∙ u)

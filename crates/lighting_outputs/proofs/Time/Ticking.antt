@@ -7,7 +7,7 @@ use Prim.Native.Nat.{ℕ, zero, suc, ◌+◌, ◌-◌, ◌≤◌}
 use native.Mathlib.Nat.{add-zero}
 use native.Mathlib.Omega.{arith}
 use Rattle.lighting_outputs.specs.Paper.Parameters.{Parameters}
-use Rattle.lighting_levels.specs.Paper.Choice.{if◌then◌else◌}
+use Rattle.lighting_levels.specs.Paper.Choice.{when◌then◌else◌}
 use Rattle.lighting_levels.proofs.Split.{by_eq, by_lt, by_bool}
 use Rattle.lighting_outputs.specs.declared.Settings.{Settings}
 use Rattle.lighting_outputs.specs.declared.Phase.{Phase}
@@ -40,7 +40,7 @@ record Effect (p : Parameters) (t : ℕ) (c : Settings) (s : Slots) (a : Activit
 -- THE DURATION
 pub end_movement_of_acts : (p : Parameters) (t : ℕ) (c : Settings) (s : Slots) (q : ℕ) (a : Activity) → Slot q → Filled s → Acts p t c s a
     → Acts p t c (emptied s q) (end_movement_of q a)
-unfolding end_movement_of if◌then◌else◌
+unfolding end_movement_of when◌then◌else◌
 end_movement_of_acts p t c s q Still g f h = six_kept s f.size q none g.inside g.free ∙ h
 end_movement_of_acts p t c s q (Moving m) g f h =
     let k = six_kept s f.size q none g.inside g.free in
@@ -55,7 +55,7 @@ end_movement_of_acts p t c s q (Warned w) g f h = let k = six_kept s f.size q no
 
 expired_effect : (p : Parameters) (t d : ℕ) (c : Settings) (s : Slots) (m : Timer) (a : Activity) → Timed t m → Filled s → Acts p t c s a
     → Effect p t c (expired d m s) (end_movement_on_expiry d m a)
-unfolding expired end_movement_on_expiry if◌then◌else◌
+unfolding expired end_movement_on_expiry when◌then◌else◌
 expired_effect p t d c s m a k f h =
     by_bool (is_due d (timer_due m)) (λ e. rw e (falls m k)) (λ e. rw e (record { slots = f; activity = h }))
   where
@@ -67,7 +67,7 @@ expired_effect p t d c s m a k f h =
 -- THE WARNING AND THE MOVEMENT
 phase_effect : (p : Parameters) (t : ℕ) (c : Settings) (s : Slots) (w : Warning) (z : Phase) → Filled s → is_live s slot6 ≡ true → Within 6 15 w.owner
     → IsLevel w.level → phase_end w z ≡ t → Effect p t c (phase_slots w z s) (next_phase w z)
-unfolding phase_slots next_phase delayed phase_end if◌then◌else◌
+unfolding phase_slots next_phase delayed phase_end when◌then◌else◌
 phase_effect p t c s w Blink f l x y h =
     by_lt
     w.turn
@@ -85,7 +85,7 @@ phase_effect p t c s w Delay f l x y h =
 
 next_effect : (p : Parameters) (t : ℕ) (c : Settings) (s : Slots) (a : Activity) → Filled s → Acts p t c s a
     → Effect p (suc t) c (slots_at (suc t) a s) (activity_at (suc t) a)
-unfolding slots_at activity_at next_slots next_activity activity_due is_due if◌then◌else◌
+unfolding slots_at activity_at next_slots next_activity activity_due is_due when◌then◌else◌
 next_effect p t c s Still f h = record { slots = f; activity = h }
 next_effect p t c s (Moving m) f h =
     by_eq
@@ -101,7 +101,7 @@ next_effect p t c s (Warned w) f h =
     (λ z e. rw e (record { slots = f; activity = search arith }))
 
 next_timer : (t : ℕ) (m : Timer) → Timed t m → Timed (suc t) (timer_at (suc t) m)
-unfolding timer_at timer_due is_due if◌then◌else◌
+unfolding timer_at timer_due is_due when◌then◌else◌
 next_timer t Off h = tt
 next_timer t (Running q d) h = by_eq d (suc t) (λ z e. rw e tt) (λ z e. rw e (h.0, omega (arith, h.1)))
 

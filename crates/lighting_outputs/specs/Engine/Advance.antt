@@ -1,7 +1,7 @@
 -- THE ENGINE's passing of time: from due moment to due moment. proofs/Time/Passing.antt has that it comes to
 -- the plain panel's milliseconds (`ticks` of Paper/Passing.antt), so that nobody need believe this file.
 use Rattle.std.specs.Prelude.{Bool, true, false, List, [], ◌∷◌, ℕ, zero, suc, ◌+◌, ◌-◌, min, ltb}
-use Rattle.lighting_levels.specs.Paper.Choice.{if◌then◌else◌}
+use Rattle.lighting_levels.specs.Paper.Choice.{when◌then◌else◌}
 use Rattle.lighting_outputs.specs.declared.Moment.{Moment}
 use Rattle.lighting_outputs.specs.declared.Moment.TheVariants.{Never, At}
 use Rattle.lighting_outputs.specs.declared.Output.{Output}
@@ -36,10 +36,10 @@ with_burned_saturating from n o = burned_by (lit_stretch from n o) o
 -- was judged needs no judging again (proofs/Time/Judged.antt)
 abbrev pub any_due : ℕ → List Moment → Bool
 any_due d [] = false
-any_due d (first ∷ rest) = if is_due d first then true else any_due d rest
+any_due d (first ∷ rest) = when is_due d first then true else any_due d rest
 
 unfoldable pub fire_due : ℕ → Output → Output
-fire_due d o = if any_due d (due_moments o) then fire d o else o
+fire_due d o = when any_due d (due_moments o) then fire d o else o
 
 unfoldable pub event_step : ℕ → ℕ → Output → Output
 event_step now d o = fire_due d (with_burned_saturating now (d - now) o)

@@ -2,7 +2,7 @@
 -- proofs/Time/Light.antt has that it comes to the milliseconds one by one (`lit_milliseconds` of
 -- Paper/Passing.antt), so that nobody need believe this file.
 use Rattle.std.specs.Prelude.{ℕ, ◌+◌, ◌-◌, ◌*◌, ◌/◌, min, max, ltb, eqb}
-use Rattle.lighting_levels.specs.Paper.Choice.{if◌then◌else◌}
+use Rattle.lighting_levels.specs.Paper.Choice.{when◌then◌else◌}
 use Rattle.lighting_outputs.specs.Paper.Value.{present_value, in_process}
 use Rattle.lighting_outputs.specs.declared.Pace.{Pace}
 use Rattle.lighting_outputs.specs.declared.Pace.TheVariants.{Fade, Ramp}
@@ -23,10 +23,10 @@ last_short u s w = (u * w - 1) / s
 -- and the moment from which on they are: never, where the movement stands or its length is too short. The k
 -- after the last one short is reached as long before the end as it is short of the length
 unfoldable pub moment_after : ℕ → Movement → Moment
-moment_after k m = if ltb k m.length then At (m.over - (m.length - (k + 1))) else Never
+moment_after k m = when ltb k m.length then At (m.over - (m.length - (k + 1))) else Never
 
 unfoldable pub gone_at : ℕ → ℕ → ℕ → Movement → Moment
-gone_at u s w m = if eqb s 0 then Never else moment_after (last_short u s w) m
+gone_at u s w m = when eqb s 0 then Never else moment_after (last_short u s w) m
 
 -- of the n milliseconds from a moment on, those before the moment d, and those from it on
 unfoldable pub count_before : ℕ → ℕ → Moment → ℕ
@@ -40,13 +40,13 @@ count_since from n (At d) = n - (d - from)
 -- A RISE FROM 0 is dark until the first unit of its way is gone, A FALL TO 0 is lit until all of it is, and
 -- no other movement comes to 0
 unfoldable pub lit_from_zero : ℕ → ℕ → ℕ → ℕ → Movement → ℕ
-lit_from_zero s w from n m = if eqb m.target 0 then 0 else count_since from n (gone_at 1 s w m)
+lit_from_zero s w from n m = when eqb m.target 0 then 0 else count_since from n (gone_at 1 s w m)
 
 unfoldable pub lit_from_light : ℕ → ℕ → ℕ → ℕ → Movement → ℕ
-lit_from_light s w from n m = if eqb m.target 0 then count_before from n (gone_at m.start s w m) else n
+lit_from_light s w from n m = when eqb m.target 0 then count_before from n (gone_at m.start s w m) else n
 
 unfoldable pub lit_at : ℕ → ℕ → ℕ → ℕ → Movement → ℕ
-lit_at s w from n m = if eqb m.start 0 then lit_from_zero s w from n m else lit_from_light s w from n m
+lit_at s w from n m = when eqb m.start 0 then lit_from_zero s w from n m else lit_from_light s w from n m
 
 unfoldable pub lit_by_pace : ℕ → ℕ → Movement → Pace → ℕ
 lit_by_pace from n m Fade = lit_at (max m.start m.target) m.length from n m
@@ -63,10 +63,10 @@ lit_in_movement from n (Warned w) = 0
 
 -- without a movement Progress_Value is Present_Value v: all or none
 unfoldable pub lit_resting : ℕ → ℕ → ℕ
-lit_resting n v = if ltb 0 v then n else 0
+lit_resting n v = when ltb 0 v then n else 0
 
 unfoldable pub lit_stretch : ℕ → ℕ → Output → ℕ
 lit_stretch from n o =
-    if eqb (in_process o.activity) 1
+    when eqb (in_process o.activity) 1
     then lit_in_movement from n o.activity
     else lit_resting n (present_value o.settings o.slots)

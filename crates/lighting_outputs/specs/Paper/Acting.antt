@@ -2,7 +2,7 @@
 -- and the plain panel share it.
 --
 use Rattle.std.specs.Prelude.{Bool, List, ℕ, get_or, set}
-use Rattle.lighting_levels.specs.Paper.Choice.{if◌then◌else◌}
+use Rattle.lighting_levels.specs.Paper.Choice.{when◌then◌else◌}
 use Rattle.lighting_outputs.specs.Paper.Relay.{inactive_not_below}
 use Rattle.lighting_outputs.specs.Paper.Passing.{after_events}
 use Rattle.lighting_outputs.specs.Paper.Writing.{written, slot_relinquished}
@@ -30,7 +30,7 @@ unchanged o a = record { output = o; answer = a }
 -- its active one (unordered): 16, 'tested after 13, leaving what 13 leaves' (§3)
 unfoldable pub changed_unless : Bool → Bool → Output → Property → ℕ → Outcome
 changed_unless m unordered o property value =
-    if m then unchanged o (Refused 13) else if unordered then unchanged o (Refused 16) else done (changed o property value)
+    when m then unchanged o (Refused 13) else when unordered then unchanged o (Refused 16) else done (changed o property value)
 
 -- A REQUEST TO ONE OUTPUT: 'does what its kind calls for', or refuses 13 or 16. A read of an unknown
 -- property is 9. Whether its station is a tenant (§8) is asked by a read alone

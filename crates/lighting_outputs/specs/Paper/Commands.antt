@@ -1,7 +1,7 @@
 -- 'Writes and commands': the eleven commands and the duration. A command acts on slot p,
 -- Lighting_Command_Priority.
 use Rattle.std.specs.Prelude.{ℕ, ◌+◌, ◌-◌, ◌*◌, ◌/◌, max, eqb, Float}
-use Rattle.lighting_levels.specs.Paper.Choice.{if◌then◌else◌}
+use Rattle.lighting_levels.specs.Paper.Choice.{when◌then◌else◌}
 use Rattle.lighting_levels.specs.Paper.Level.{level_units, amount_units, distance}
 use Rattle.lighting_outputs.specs.Paper.Slots.{Slots, slot6, winner, emptied, filled}
 use Rattle.lighting_outputs.specs.Paper.Value.{clamp, clamp_lit, progress_value}
@@ -36,7 +36,7 @@ activity_without_warning (Warned w) = Still
 -- 'put in slot p. If p is then the winner (`first`) it replaces the movement; if not, an existing movement
 -- goes on'
 unfoldable pub replaced : ℕ → ℕ → Activity → Activity → Activity
-replaced first p new old = if eqb first p then new else old
+replaced first p new old = when eqb first p then new else old
 
 unfoldable pub placed : Slots → Activity → ℕ → ℕ → Activity → Effect
 placed s a p g new = record { slots = filled s p g; activity = replaced (winner (filled s p g)) p new a }
@@ -44,7 +44,7 @@ placed s a p g new = record { slots = filled s p g; activity = replaced (winner 
 -- a movement of slot p at t from f, the paper's s, to g over l: 'If s = g there is no movement'
 unfoldable pub movement : ℕ → ℕ → ℕ → ℕ → ℕ → Pace → Activity
 movement t p f g l pace =
-    if eqb f g then Still else Moving (record { owner = p; start = f; target = g; length = l; over = t + l; pace = pace })
+    when eqb f g then Still else Moving (record { owner = p; start = f; target = g; length = l; over = t + l; pace = pace })
 
 -- 'L = ceiling(1,000 × |g - s| / R)', of the way
 unfoldable pub ramp_length : ℕ → ℕ → ℕ
@@ -81,7 +81,7 @@ unfoldable pub step_up_from : Settings → ℕ → ℕ → ℕ
 step_up_from c f step = clamp c (f + step)
 
 unfoldable pub step_down_from : Settings → ℕ → ℕ → ℕ
-step_down_from c f step = if eqb f 0 then 0 else clamp c (f - step)
+step_down_from c f step = when eqb f 0 then 0 else clamp c (f - step)
 
 unfoldable pub stepped_up : Settings → ℕ → Slots → Activity → Float → Effect
 stepped_up c f s a x = jumped c s a (step_up_from c f (amount_units x))
@@ -92,7 +92,7 @@ stepped_down c f s a x = jumped c s a (step_down_from c f (amount_units x))
 -- 'STOP: if a movement belongs to p, it ends and slot p gets the reached level, raised to Min if above zero.
 -- Else it changes no slot'. A warning has ended before (`activity_without_warning`)
 unfoldable pub raised : Settings → ℕ → ℕ
-raised c v = if eqb v 0 then 0 else max c.min v
+raised c v = when eqb v 0 then 0 else max c.min v
 
 unfoldable pub halted : Settings → ℕ → Slots → Effect
 halted c f s = record { slots = filled s c.slot (raised c f); activity = Still }
@@ -102,7 +102,7 @@ as_it_is s a = record { slots = s; activity = a }
 
 unfoldable pub stopped : Settings → ℕ → Slots → Activity → Effect
 stopped c f s Still = as_it_is s Still
-stopped c f s (Moving m) = if eqb m.owner c.slot then halted c f s else as_it_is s (Moving m)
+stopped c f s (Moving m) = when eqb m.owner c.slot then halted c f s else as_it_is s (Moving m)
 stopped c f s (Warned w) = as_it_is s (Warned w)
 
 -- 'RELINQUISH empties slot p; if p owned the movement, it ends'

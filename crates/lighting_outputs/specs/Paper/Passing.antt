@@ -1,7 +1,7 @@
 -- 'The plain panel': how an output passes from one moment to another. The plain panel lives one millisecond
 -- after another; the engine goes from due moment to due moment. Both do the same at a moment (`fire`).
 use Rattle.std.specs.Prelude.{Bool, false, List, [], ◌∷◌, ℕ, zero, suc, ◌+◌, ltb, eqb}
-use Rattle.lighting_levels.specs.Paper.Choice.{if◌then◌else◌}
+use Rattle.lighting_levels.specs.Paper.Choice.{when◌then◌else◌}
 use Rattle.lighting_outputs.specs.declared.Phase.{Phase}
 use Rattle.lighting_outputs.specs.declared.Phase.TheVariants.{Blink, Delay}
 use Rattle.lighting_outputs.specs.declared.Warning.{Warning}
@@ -21,7 +21,7 @@ use Rattle.lighting_outputs.specs.Paper.Record.{with_burning, with_due, with_rel
 -- milliseconds from a moment on, those at whose start the lamp gives light
 unfoldable pub lit_milliseconds : ℕ → ℕ → Output → ℕ
 lit_milliseconds from zero o = 0
-lit_milliseconds from (suc n) o = (if lit from o then 1 else 0) + lit_milliseconds (suc from) n o
+lit_milliseconds from (suc n) o = (when lit from o then 1 else 0) + lit_milliseconds (suc from) n o
 
 unfoldable pub with_burned : ℕ → ℕ → Output → Output
 with_burned from n o = with_burning o (o.burning + lit_milliseconds from n o)
@@ -51,19 +51,19 @@ is_due t (At d) = eqb d t
 
 -- WHAT FALLS DUE at the moment t. 'then a due duration empties its slot': the timer and the slots after it
 unfoldable pub timer_at : ℕ → Timer → Timer
-timer_at t timer = if is_due t (timer_due timer) then Off else timer
+timer_at t timer = when is_due t (timer_due timer) then Off else timer
 
 unfoldable pub emptied_by : Timer → Slots → Slots
 emptied_by Off s = s
 emptied_by (Running slot due) s = emptied s slot
 
 unfoldable pub expired : ℕ → Timer → Slots → Slots
-expired t timer s = if is_due t (timer_due timer) then emptied_by timer s else s
+expired t timer s = when is_due t (timer_due timer) then emptied_by timer s else s
 
 -- '(ending a movement that slot owned)'
 unfoldable pub end_movement_of : ℕ → Activity → Activity
 end_movement_of q Still = Still
-end_movement_of q (Moving m) = if eqb m.owner q then Still else Moving m
+end_movement_of q (Moving m) = when eqb m.owner q then Still else Moving m
 end_movement_of q (Warned w) = Warned w
 
 unfoldable pub end_movement_by : Timer → Activity → Activity
@@ -71,7 +71,7 @@ end_movement_by Off a = a
 end_movement_by (Running slot due) a = end_movement_of slot a
 
 unfoldable pub end_movement_on_expiry : ℕ → Timer → Activity → Activity
-end_movement_on_expiry t timer a = if is_due t (timer_due timer) then end_movement_by timer a else a
+end_movement_on_expiry t timer a = when is_due t (timer_due timer) then end_movement_by timer a else a
 
 -- the warning's phases follow one another, the second if D is above 0, and a movement is over at its last
 -- moment
@@ -79,7 +79,7 @@ unfoldable pub delayed : Warning → Warning
 delayed w = record { phase = Delay; owner = w.owner; level = w.level; turn = w.turn; over = w.over }
 
 unfoldable pub next_phase : Warning → Phase → Activity
-next_phase w Blink = if ltb w.turn w.over then Warned (delayed w) else Still
+next_phase w Blink = when ltb w.turn w.over then Warned (delayed w) else Still
 next_phase w Delay = Still
 
 unfoldable pub next_activity : Activity → Activity
@@ -88,12 +88,12 @@ next_activity (Moving m) = Still
 next_activity (Warned w) = next_phase w w.phase
 
 unfoldable pub activity_at : ℕ → Activity → Activity
-activity_at t a = if is_due t (activity_due a) then next_activity a else a
+activity_at t a = when is_due t (activity_due a) then next_activity a else a
 
 -- 'then the warning's slots are set': 'Slot 6 holds 0 for B ms, then Y for D ms, then is empty; if D is above
 -- 0, slot X empties with it'
 unfoldable pub phase_slots : Warning → Phase → Slots → Slots
-phase_slots w Blink s = if ltb w.turn w.over then filled s slot6 w.level else emptied s slot6
+phase_slots w Blink s = when ltb w.turn w.over then filled s slot6 w.level else emptied s slot6
 phase_slots w Delay s = emptied (emptied s slot6) w.owner
 
 unfoldable pub next_slots : Activity → Slots → Slots
@@ -102,7 +102,7 @@ next_slots (Moving m) s = s
 next_slots (Warned w) s = phase_slots w w.phase s
 
 unfoldable pub slots_at : ℕ → Activity → Slots → Slots
-slots_at t a s = if is_due t (activity_due a) then next_slots a s else s
+slots_at t a s = when is_due t (activity_due a) then next_slots a s else s
 
 -- 'It is judged after each frame's act and after each millisecond's due moments' (§3 of the change requests):
 -- the relay, by Present_Value

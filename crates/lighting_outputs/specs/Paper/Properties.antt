@@ -2,7 +2,7 @@
 -- as.
 use Rattle.std.specs.Prelude.{Bool, List, [], ◌∷◌, ℕ, ◌+◌, ◌-◌, ◌/◌, ◌%◌, min, ltb, leb, eqb, Float}
 use Rattle.std.proofs.Math.Option.{Option, none, some}
-use Rattle.lighting_levels.specs.Paper.Choice.{if◌then◌else◌}
+use Rattle.lighting_levels.specs.Paper.Choice.{when◌then◌else◌}
 use Rattle.lighting_outputs.specs.Paper.Parameters.{Parameters}
 use Rattle.lighting_outputs.specs.Paper.Answers.{levelRefusal}
 use Rattle.lighting_levels.specs.Paper.Level.{real, bits, read_out, level_of, limit_of}
@@ -98,11 +98,11 @@ properties =
 -- the property of a number, '21 to 30 slots 1 to 16'
 unfoldable pub numbered : List Property → ℕ → Property
 numbered [] n = Unknown
-numbered (first ∷ rest) n = if eqb n (number_of first) then first else numbered rest n
+numbered (first ∷ rest) n = when eqb n (number_of first) then first else numbered rest n
 
 unfoldable pub property_of : ℕ → Property
 property_of n =
-    if leb 0x21 n then (if leb n 0x30 then SlotValue (n - 0x21) else Unknown) else numbered properties n
+    when leb 0x21 n then (when leb n 0x30 then SlotValue (n - 0x21) else Unknown) else numbered properties n
 
 -- the one is the other
 unfoldable pub same : Property → Property → Bool
@@ -118,9 +118,9 @@ change_to property OutOfRange = Refuse (levelRefusal OutOfRange)
 unfoldable pub change_by : Range → Property → ℕ → Request
 change_by Percent property x = change_to property (level_of (real x))
 change_by Limit property x = change_to property (limit_of (real x))
-change_by Amount property x = if is_amount (real x) then ToOutput (Change property x) else Refuse (levelRefusal OutOfRange)
-change_by (Whole low high) property x = if within low high x then ToOutput (Change property x) else Refuse 12
-change_by Priority property x = if is_priority x then ToOutput (Change property (x - 1)) else Refuse 10
+change_by Amount property x = when is_amount (real x) then ToOutput (Change property x) else Refuse (levelRefusal OutOfRange)
+change_by (Whole low high) property x = when within low high x then ToOutput (Change property x) else Refuse 12
+change_by Priority property x = when is_priority x then ToOutput (Change property (x - 1)) else Refuse 10
 change_by ReadOnly property x = Refuse 9
 
 unfoldable pub change_of : Parameters → Property → ℕ → Request
@@ -130,25 +130,25 @@ change_of p property x = change_by (row_of p property) property x
 unfoldable pub settings_with : Settings → Property → ℕ → Settings
 settings_with c property v =
     record {
-      default = if same RelinquishDefault property then v else c.default;
-      fade = if same FadeTime property then v else c.fade;
-      ramp = if same RampRate property then real v else c.ramp;
-      step = if same StepIncrement property then real v else c.step;
-      enable = if same BlinkEnable property then eqb v 1 else c.enable;
-      blink = if same BlinkTime property then v else c.blink;
-      delay = if same BlinkWarnDelay property then v else c.delay;
-      min = if same MinValue property then v else c.min;
-      max = if same MaxValue property then v else c.max;
-      slot = if same CommandPriority property then v % 256 else c.slot;
+      default = when same RelinquishDefault property then v else c.default;
+      fade = when same FadeTime property then v else c.fade;
+      ramp = when same RampRate property then real v else c.ramp;
+      step = when same StepIncrement property then real v else c.step;
+      enable = when same BlinkEnable property then eqb v 1 else c.enable;
+      blink = when same BlinkTime property then v else c.blink;
+      delay = when same BlinkWarnDelay property then v else c.delay;
+      min = when same MinValue property then v else c.min;
+      max = when same MaxValue property then v else c.max;
+      slot = when same CommandPriority property then v % 256 else c.slot;
     }
 
 -- and the settings of the relay (§3): its Binary_Present_Value is never written
 unfoldable pub relay_with : Relay → Property → ℕ → Relay
 relay_with r property v =
     record {
-      active = if same BinaryActiveValue property then v else r.active;
-      inactive = if same BinaryInactiveValue property then v else r.inactive;
-      reverse = if same Polarity property then eqb v 1 else r.reverse;
+      active = when same BinaryActiveValue property then v else r.active;
+      inactive = when same BinaryInactiveValue property then v else r.inactive;
+      reverse = when same Polarity property then eqb v 1 else r.reverse;
       binary = r.binary;
     }
 
@@ -160,11 +160,11 @@ end_movement (Warned w) = Warned w
 
 -- 'Writing 08 or 09 ends the movement'
 unfoldable pub activity_with : Activity → Property → Activity
-activity_with a property = if same MinValue property then end_movement a else if same MaxValue property then end_movement a else a
+activity_with a property = when same MinValue property then end_movement a else when same MaxValue property then end_movement a else a
 
 -- '0B Elapsed_Active_Time, written only with 0'
 unfoldable pub burning_with : ℕ → Property → ℕ
-burning_with b property = if same ElapsedActiveTime property then 0 else b
+burning_with b property = when same ElapsedActiveTime property then 0 else b
 
 unfoldable pub changed : Output → Property → ℕ → Output
 changed o property v =
@@ -192,7 +192,7 @@ unfoldable pub slot_answer : Slots → ℕ → Answer
 slot_answer s i = level_or_absent (slot s i)
 
 unfoldable pub flag : Bool → ℕ
-flag on = if on then 1 else 0
+flag on = when on then 1 else 0
 
 -- 'Elapsed_Active_Time reads floor(burning / 1,000), at most 4,294,967,295'
 unfoldable pub elapsed_active : ℕ → ℕ
@@ -244,5 +244,5 @@ read_property tenant t o BinaryInactiveValue = level_answer o.relay.inactive
 read_property tenant t o Polarity = Value (flag o.relay.reverse)
 read_property tenant t o BinaryPresentValue = Value (flag o.relay.binary)
 read_property tenant t o RelayState = Value (flag (relay_state o.relay))
-read_property tenant t o (SlotValue i) = if hidden tenant i then Absent else slot_answer o.slots i
+read_property tenant t o (SlotValue i) = when hidden tenant i then Absent else slot_answer o.slots i
 read_property tenant t o Unknown = Refused 9

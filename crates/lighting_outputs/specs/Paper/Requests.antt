@@ -1,7 +1,7 @@
 -- THE REQUESTS that a frame's fields ask for, in whatever form they came: refusals 10 to 12 of a command and
 -- of kinds 02 and 03.
 use Rattle.std.specs.Prelude.{ℕ, ◌-◌, eqb}
-use Rattle.lighting_levels.specs.Paper.Choice.{if◌then◌else◌}
+use Rattle.lighting_levels.specs.Paper.Choice.{when◌then◌else◌}
 use Rattle.lighting_outputs.specs.Paper.Parameters.{Parameters}
 use Rattle.lighting_outputs.specs.Paper.Answers.{levelRefusal}
 use Rattle.lighting_levels.specs.Paper.Level.{real, level_of, amount_of}
@@ -33,12 +33,12 @@ amount_field_refusal (Real x) = levelRefusal (amount_of x)
 amount_field_refusal NoReal = 0
 
 unfoldable pub time_field_refusal : Parameters → TimeField → ℕ
-time_field_refusal p (Time fade) = if meets (row_of p FadeTime) fade then 0 else 12
+time_field_refusal p (Time fade) = when meets (row_of p FadeTime) fade then 0 else 12
 time_field_refusal p NoTime = 0
 
 -- the first of two refusals
 unfoldable pub first_refusal : ℕ → ℕ → ℕ
-first_refusal earlier later = if eqb earlier 0 then later else earlier
+first_refusal earlier later = when eqb earlier 0 then later else earlier
 
 unfoldable pub fields_refusal : Parameters → OperationFields → ℕ
 fields_refusal p f =
@@ -48,8 +48,8 @@ fields_refusal p f =
 -- other is 12
 unfoldable pub command_lasting : Parameters → Operation → ℕ → Request
 command_lasting p operation d =
-    if eqb d 0 then ToOutput (Commands (record { operation = operation; duration = Cancels }))
-    else if within 100 p.duration d then ToOutput (Commands (record { operation = operation; duration = Lasts d }))
+    when eqb d 0 then ToOutput (Commands (record { operation = operation; duration = Cancels }))
+    else when within 100 p.duration d then ToOutput (Commands (record { operation = operation; duration = Lasts d }))
     else Refuse 12
 
 unfoldable pub command_with_duration : Parameters → Operation → TimeField → Request
@@ -58,7 +58,7 @@ command_with_duration p operation NoTime = ToOutput (Commands (record { operatio
 
 -- an operation with its duration, whose fields meet a refusal, or 0 for none
 unfoldable pub command_request_by : Parameters → ℕ → Operation → TimeField → Request
-command_request_by p refusal operation duration = if eqb refusal 0 then command_with_duration p operation duration else Refuse refusal
+command_request_by p refusal operation duration = when eqb refusal 0 then command_with_duration p operation duration else Refuse refusal
 
 -- THE RANGES OF A COMMAND, in whatever form it came: its fields from left to right, the duration last
 unfoldable pub command_of : Parameters → Operation → TimeField → Request
@@ -66,7 +66,7 @@ command_of p operation duration = command_request_by p (fields_refusal p (fields
 
 -- in the plain kinds, 10 to 1A, 'FFFFFFFF means absent'
 unfoldable pub plain_duration : ℕ → TimeField
-plain_duration d = if eqb d 0xffff_ffff then NoTime else Time d
+plain_duration d = when eqb d 0xffff_ffff then NoTime else Time d
 
 unfoldable pub command_request : Parameters → Operation → ℕ → Request
 command_request p operation d = command_of p operation (plain_duration d)
@@ -77,7 +77,7 @@ write_level i (Units v) = ToOutput (Write i v)
 write_level i OutOfRange = Refuse (levelRefusal OutOfRange)
 
 unfoldable pub write_of : ℕ → ℕ → Request
-write_of n pattern = if is_priority n then write_level (n - 1) (level_of (real pattern)) else Refuse 10
+write_of n pattern = when is_priority n then write_level (n - 1) (level_of (real pattern)) else Refuse 10
 
 unfoldable pub empty_of : ℕ → Request
-empty_of n = if is_priority n then ToOutput (Empty (n - 1)) else Refuse 10
+empty_of n = when is_priority n then ToOutput (Empty (n - 1)) else Refuse 10

@@ -1,7 +1,7 @@
 -- WHAT A PROPERTY'S VALUE MUST BE: one row a property. By it a write is judged (`change_by`, Properties.antt)
 -- and so is what a record keeps (`settings_sound`, Rules.antt).
 use Rattle.std.specs.Prelude.{Bool, true, false, ℕ, ◌-◌, ltb, leb, eqb, Float}
-use Rattle.lighting_levels.specs.Paper.Choice.{if◌then◌else◌, ◌also◌}
+use Rattle.lighting_levels.specs.Paper.Choice.{when◌then◌else◌, ◌also◌}
 use Rattle.lighting_outputs.specs.Paper.Parameters.{Parameters, longest_blink}
 use Rattle.lighting_levels.specs.Paper.Level.{least_level, greatest_level, real, in_range, amount_of}
 use Rattle.lighting_outputs.specs.Paper.Slots.{slot_count, slot6}
@@ -48,7 +48,7 @@ within low high v = leb low v also leb v high
 
 -- 'slot levels and Relinquish_Default 0 or 65,536 to 6,553,600'
 unfoldable pub is_level : ℕ → Bool
-is_level v = if eqb v 0 then true else within least_level greatest_level v
+is_level v = when eqb v 0 then true else within least_level greatest_level v
 
 -- 'REAL 0.125 to 100'
 unfoldable pub is_amount : Float → Bool
@@ -57,10 +57,10 @@ is_amount x = in_range (amount_of x)
 -- a slot that a frame may name, counted from 0: any of the sixteen but slot 6; and its priority: not '0, 6 or
 -- over 16'
 unfoldable pub is_slot : ℕ → Bool
-is_slot i = if eqb i slot6 then false else ltb i slot_count
+is_slot i = when eqb i slot6 then false else ltb i slot_count
 
 unfoldable pub is_priority : ℕ → Bool
-is_priority n = if eqb n 0 then false else is_slot (n - 1)
+is_priority n = when eqb n 0 then false else is_slot (n - 1)
 
 -- WHAT IS KEPT meets its row: v a level in units, a REAL's pattern, the number itself or the slot
 unfoldable pub meets : Range → ℕ → Bool

@@ -1,7 +1,7 @@
 -- 'Record rules', as the test that the engine makes on every lent record. Slots are counted from 0: 7 to 16
 -- are 6 to 15.
 use Rattle.std.specs.Prelude.{Bool, true, false, not, ℕ, ◌+◌, ◌-◌, ltb, leb, eqb, get_or}
-use Rattle.lighting_levels.specs.Paper.Choice.{if◌then◌else◌, ◌also◌, all_from}
+use Rattle.lighting_levels.specs.Paper.Choice.{when◌then◌else◌, ◌also◌, all_from}
 use Rattle.lighting_outputs.specs.Paper.Parameters.{Parameters, longest_movement}
 use Rattle.lighting_outputs.specs.Paper.Slots.{Slots, slot_count, slot16, slot6, is_live, winner}
 use Rattle.lighting_outputs.specs.Paper.Value.{present_value}
@@ -42,7 +42,7 @@ settings_sound p c =
 
 -- a live slot holds a level
 unfoldable pub slot_sound : Slots → ℕ → Bool
-slot_sound s i = if is_live s i then is_level (get_or s.levels i 0) else true
+slot_sound s i = when is_live s i then is_level (get_or s.levels i 0) else true
 
 unfoldable pub slots_sound : Slots → Bool
 slots_sound s = all_from (slot_sound s) slot_count 0
@@ -69,7 +69,7 @@ warning_sound t w = warning_by t w (phase_end w w.phase)
 -- Present_Value
 unfoldable pub activity_by : Parameters → ℕ → Bool → ℕ → ℕ → ℕ → Activity → Bool
 activity_by p t l first high v Still = not l
-activity_by p t l first high v (Moving m) = if l then false else movement_sound p t first high v m
+activity_by p t l first high v (Moving m) = when l then false else movement_sound p t first high v m
 activity_by p t l first high v (Warned g) = l also warning_sound t g
 
 unfoldable pub activity_sound : Parameters → ℕ → Settings → Slots → Activity → Bool
@@ -83,7 +83,7 @@ timer_sound t (Running slot due) = is_slot slot also ltb t due
 -- §3: 'both are in Relinquish_Default's range, the inactive value is below the active one, and
 -- Binary_Present_Value is as judging leaves it'. A polarity is always in range. v: Present_Value
 unfoldable pub agrees : Bool → Bool → Bool
-agrees one other = if one then other else not other
+agrees one other = when one then other else not other
 
 unfoldable pub relay_sound : Parameters → ℕ → Relay → Bool
 relay_sound p v r =

@@ -4,7 +4,7 @@
 use Rattle.std.specs.Prelude.{Bool, List, [], ◌∷◌, ℕ, suc, ◌-◌, ◌/◌, ◌%◌, ◌^◌, eqb, ltb, set, get_or}
 use Rattle.std.proofs.Math.Option.{Option, none, some}
 use Rattle.std.specs.Int.Bits.{bit_and, bit_or}
-use Rattle.lighting_levels.specs.Paper.Choice.{if◌then◌else◌}
+use Rattle.lighting_levels.specs.Paper.Choice.{when◌then◌else◌}
 use Rattle.lighting_levels.specs.Paper.Field.{bit_set}
 pub use Rattle.lighting_outputs.specs.declared.Slots.{Slots}
 
@@ -22,7 +22,7 @@ slot6 = 5
 -- the lowest bit: the slots that the mask and the levels stand for
 unfoldable pub view : ℕ → List ℕ → List (Option ℕ)
 view m [] = []
-view m (v ∷ l) = (if eqb (m % 2) 1 then some v else none) ∷ view (m / 2) l
+view m (v ∷ l) = (when eqb (m % 2) 1 then some v else none) ∷ view (m / 2) l
 
 unfoldable pub slots_of : Slots → List (Option ℕ)
 slots_of s = view s.live s.levels
@@ -47,13 +47,13 @@ is_live s i = bit_set s.live i
 -- bit i cleared and set; a level put in its place. There is no slot from 16 on: the guard stands for records
 -- that break the rules (proofs/Priorities/Mask.antt, `put_slots`)
 unfoldable pub mask_emptied : ℕ → ℕ → ℕ
-mask_emptied m i = if ltb i slot_count then bit_and m (65535 - 2 ^ i) else m
+mask_emptied m i = when ltb i slot_count then bit_and m (65535 - 2 ^ i) else m
 
 unfoldable pub mask_filled : ℕ → ℕ → ℕ
-mask_filled m i = if ltb i slot_count then bit_or m (2 ^ i) else m
+mask_filled m i = when ltb i slot_count then bit_or m (2 ^ i) else m
 
 unfoldable pub level_set : List ℕ → ℕ → ℕ → List ℕ
-level_set l i v = if ltb i slot_count then set l i v else l
+level_set l i v = when ltb i slot_count then set l i v else l
 
 -- slot i emptied, its level 0 then; or filled
 unfoldable pub put : Slots → ℕ → Option ℕ → Slots
@@ -68,7 +68,7 @@ filled s i v = put s i (some v)
 
 -- the level of slot i, or d where there is no such slot; and of the winner, or d with no live slot
 unfoldable pub level_at : ℕ → Slots → ℕ → ℕ
-level_at d s i = if ltb i slot_count then get_or s.levels i 0 else d
+level_at d s i = when ltb i slot_count then get_or s.levels i 0 else d
 
 unfoldable pub winning_level : ℕ → Slots → ℕ
 winning_level d s = level_at d s (winner s)

@@ -1,7 +1,7 @@
 -- §8, 'Tenant stations and service stations': which stations are tenants, and what a tenant is shown.
 -- Everything else is exact for a tenant too.
 use Rattle.std.specs.Prelude.{Bool, true, false, ℕ, ◌*◌, ◌/◌, leb}
-use Rattle.lighting_levels.specs.Paper.Choice.{if◌then◌else◌, ◌also◌}
+use Rattle.lighting_levels.specs.Paper.Choice.{when◌then◌else◌, ◌also◌}
 use Rattle.lighting_levels.specs.Paper.Field.{bit_set}
 use Rattle.lighting_outputs.specs.Paper.Slots.{slot6}
 
@@ -23,7 +23,7 @@ whole_percent level = level / 65536 * 65536
 
 -- a level that a tenant reads in whole percent
 unfoldable pub shown_level : Bool → ℕ → ℕ
-shown_level tenant level = if tenant then whole_percent level else level
+shown_level tenant level = when tenant then whole_percent level else level
 
 -- 'A tenant reading slots 1 to 6 gets Absent', whether they are live or not: slot i is hidden
 unfoldable pub hidden : Bool → ℕ → Bool

@@ -1,6 +1,6 @@
 -- What an output shows: Present_Value, Progress_Value, In_Process.
 use Rattle.std.specs.Prelude.{Bool, ℕ, ◌+◌, ◌-◌, ◌*◌, ◌/◌, min, max, ltb, leb, eqb}
-use Rattle.lighting_levels.specs.Paper.Choice.{if◌then◌else◌}
+use Rattle.lighting_levels.specs.Paper.Choice.{when◌then◌else◌}
 use Rattle.lighting_outputs.specs.Paper.Slots.{Slots, winning_level}
 use Rattle.lighting_outputs.specs.declared.Settings.{Settings}
 use Rattle.lighting_outputs.specs.declared.Pace.{Pace}
@@ -15,7 +15,7 @@ abbrev pub clamp : Settings → ℕ → ℕ
 clamp c v = min c.max (max c.min v)
 
 unfoldable pub clamp_lit : Settings → ℕ → ℕ
-clamp_lit c v = if eqb v 0 then 0 else clamp c v
+clamp_lit c v = when eqb v 0 then 0 else clamp c v
 
 -- 'Present_Value is the winner's level, or Relinquish_Default with no live slot; if above zero it is brought
 -- into Min..Max'
@@ -36,7 +36,7 @@ distance_moved (Ramp r) d l k = min d (r * k / 1000)
 -- 's plus or minus' the way gone
 unfoldable pub reached_by : Movement → ℕ → ℕ
 reached_by m k =
-    if leb m.start m.target
+    when leb m.start m.target
     then m.start + distance_moved m.pace (m.target - m.start) m.length k
     else m.start - distance_moved m.pace (m.start - m.target) m.length k
 

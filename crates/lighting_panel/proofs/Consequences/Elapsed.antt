@@ -8,7 +8,7 @@ use native.Mathlib.Nat.{mod-eq_of_lt}
 use native.Mathlib.Omega.{arith}
 use lib.Dec.{eqb, ltb}
 use lib.ListN.{get_or, length}
-use Rattle.lighting_levels.specs.Paper.Choice.{if◌then◌else◌}
+use Rattle.lighting_levels.specs.Paper.Choice.{when◌then◌else◌}
 use Rattle.lighting_outputs.specs.declared.Parameters.{Parameters}
 use Rattle.lighting_outputs.specs.Paper.Parameters.{longest_movement}
 use Rattle.lighting_outputs.specs.Paper.Slots.{slot_count}
@@ -126,7 +126,7 @@ goes_on first on = first
 goes_on first (rests e) = rests e
 
 phase_rests : (w : Warning) (phase : Phase) → in_process (next_phase w phase) ≡ 0
-unfolding next_phase in_process if◌then◌else◌
+unfolding next_phase in_process when◌then◌else◌
 phase_rests w Blink = by_bool (ltb w.turn w.over) (λ e. rw e) (λ e. rw e)
 phase_rests w Delay = refl
 
@@ -137,11 +137,11 @@ next_rests (Moving m) = refl
 next_rests (Warned w) = phase_rests w w.phase
 
 due_goes : (d : ℕ) (a : Activity) → Goes a (activity_at d a)
-unfolding activity_at if◌then◌else◌
+unfolding activity_at when◌then◌else◌
 due_goes d a = by_bool (is_due d (activity_due a)) (λ e. rw e (rests (next_rests a))) (λ e. rw e on)
 
 slot_goes : (slot : ℕ) (a : Activity) → Goes a (end_movement_of slot a)
-unfolding end_movement_of in_process if◌then◌else◌
+unfolding end_movement_of in_process when◌then◌else◌
 slot_goes slot Still = on
 slot_goes slot (Moving m) = by_bool (eqb m.owner slot) (λ e. rw e (rests refl)) (λ e. rw e on)
 slot_goes slot (Warned w) = on
@@ -152,7 +152,7 @@ timer_goes Off a = on
 timer_goes (Running slot due) a = slot_goes slot a
 
 expiry_goes : (d : ℕ) (timer : Timer) (a : Activity) → Goes a (end_movement_on_expiry d timer a)
-unfolding end_movement_on_expiry if◌then◌else◌
+unfolding end_movement_on_expiry when◌then◌else◌
 expiry_goes d timer a = by_bool (is_due d (timer_due timer)) (λ e. rw e (timer_goes timer a)) (λ e. rw e on)
 
 tick_goes : (t : ℕ) (o : Output) → Goes o.activity (tick t o).activity

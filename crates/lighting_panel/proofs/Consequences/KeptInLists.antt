@@ -1,6 +1,6 @@
 -- AFTER EVERY LIST the last command of each output is one that a string of bytes asks for: so the writer's
 -- form of it, read, gives it back (§1: 'A writer makes this form from every command the panel keeps').
-use Rattle.lighting_levels.specs.Paper.Choice.{if◌then◌else◌, Every}
+use Rattle.lighting_levels.specs.Paper.Choice.{when◌then◌else◌, Every}
 use mathlib.Core.Path.{◌≡◌, refl}
 use mathlib.Core.Bool.{Bool, true}
 use mathlib.Core.List.{List, ◌∷◌, ◌++◌, []}
@@ -59,7 +59,7 @@ stop : Bytes
 stop = replicate 13 0 ++ replicate 4 255
 
 fresh_kept : (p : Parameters) (fade : ℕ) → Kept p (fresh_with fade).last
-unfolding stop fresh_with request_of fields_of level_field_refusal amount_field_refusal time_field_refusal first_refusal fields_refusal command_with_duration command_request_by command_of plain_duration command_request big_endian byte_at if◌then◌else◌
+unfolding stop fresh_with request_of fields_of level_field_refusal amount_field_refusal time_field_refusal first_refusal fields_refusal command_with_duration command_request_by command_of plain_duration command_request big_endian byte_at when◌then◌else◌
 fresh_kept p fade = asked Stops stop (appended_octets (replicate 13 0) (replicate 4 255) (repeated_octets 13 0 (omega arith)) (repeated_octets 4 255 (omega arith))) refl
 
 -- WHAT A FRAME ASKS
@@ -72,7 +72,7 @@ FrameKept p (Clock t) = Unit {0}
 FrameKept p (Calls call) = Asking p call.request
 
 call_kept : (p : Parameters) (c : ℕ) (action : Action) (b : Bytes) → Octets b → FrameKept p (called p c (call_of p action b))
-unfolding called call_of if◌then◌else◌
+unfolding called call_of when◌then◌else◌
 call_kept p c action b o =
     by_bool (ltb (byte_at b 1) p.stations)
     (λ e. rw e
@@ -80,7 +80,7 @@ call_kept p c action b o =
     (λ e. rw e tt)
 
 read_kept : (p : Parameters) (c l : ℕ) (kind : Kind) (b : Bytes) → Octets b → FrameKept p (parse_by p c l kind b)
-unfolding parse_by clock_of if◌then◌else◌
+unfolding parse_by clock_of when◌then◌else◌
 read_kept p c l NoKind b o = tt
 read_kept p c l ClockKind b o = by_bool (eqb (length b) l) (λ e. rw e tt) (λ e. rw e tt)
 read_kept p c l (CallKind action) b o = by_bool (eqb (length b) l) (λ e. rw e (call_kept p c action b o)) (λ e. rw e tt)
@@ -96,7 +96,7 @@ VerdictKept p (Clocked t) = Unit {0}
 VerdictKept p (Arrives call) = Asking p call.request
 
 judged_kept : (p : Parameters) (h : List Event) (b : Bytes) (f : Frame) → FrameKept p f → VerdictKept p (judged h b f)
-unfolding judged retransmission_or_conflict if◌then◌else◌
+unfolding judged retransmission_or_conflict when◌then◌else◌
 judged_kept p h b (Bad r) g = tt
 judged_kept p h b (Clock t) g = by_bool (in_time t h) (λ e. rw e tt) (λ e. rw e tt)
 judged_kept p h b (Calls call) g =

@@ -5,7 +5,7 @@ use mathlib.Core.List.{List, [], ◌∷◌}
 use Prim.Native.Nat.{ℕ, ◌<◌}
 use native.Mathlib.Omega.{arith}
 use lib.ListN.{length}
-use Rattle.lighting_levels.specs.Paper.Choice.{if◌then◌else◌}
+use Rattle.lighting_levels.specs.Paper.Choice.{when◌then◌else◌}
 use Rattle.lighting_outputs.specs.Paper.Tenants.{is_tenant}
 use Rattle.lighting_outputs.specs.declared.Answer.{Answer}
 use Rattle.lighting_frames.specs.Paper.Frames.{Bytes, Octets, Strings}
@@ -32,7 +32,7 @@ execute_keeps b e (Clocked t) = record { tenants = refl; parameters = refl }
 execute_keeps b e (Arrives call) = record { tenants = refl; parameters = refl }
 
 frame_keeps : (e : Panel) (b : Bytes) → Keeps e.kept (frame_step e b).panel.kept
-unfolding frame_step if◌then◌else◌
+unfolding frame_step when◌then◌else◌
 frame_keeps e b =
     by_bool (panel_sound e)
     (λ h. rw h (execute_keeps b e (decide e b)))
@@ -73,7 +73,7 @@ same_verdict marks e b = refl
 pub marks_beyond : (marks : ℕ) (e : Panel) (b : Bytes) → Octets b
     → AgreeBelow e.kept.parameters.stations marks e.kept.tenants
     → frame_step (with_marks marks e) b ≡ panel_result (with_marks marks (frame_step e b).panel) (frame_step e b).answer
-unfolding frame_step if◌then◌else◌
+unfolding frame_step when◌then◌else◌
 marks_beyond marks e b octets agree =
     by_bool (panel_sound e)
     (λ h. rw (same_sound marks e, same_verdict marks e b, h)

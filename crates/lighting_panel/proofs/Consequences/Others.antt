@@ -8,7 +8,7 @@ use Prim.Native.Nat.{ℕ, zero, suc, ◌≤◌, ◌<◌}
 use native.Mathlib.Omega.{arith}
 use lib.Dec.{ltb, eqb}
 use lib.ListN.{get_or, length}
-use Rattle.lighting_levels.specs.Paper.Choice.{if◌then◌else◌, every}
+use Rattle.lighting_levels.specs.Paper.Choice.{when◌then◌else◌, every}
 use Rattle.lighting_outputs.specs.declared.Parameters.{Parameters}
 use Rattle.lighting_levels.specs.Paper.Field.{byte_at}
 use Rattle.lighting_frames.specs.Paper.Kinds.{kind_row}
@@ -46,14 +46,14 @@ For i (Clocked t) = Unit {0}
 For i (Arrives call) = call.output ≡ i
 
 called_of : (p : Parameters) (c i : ℕ) (call : Call) → call.output ≡ i → Of i (called p c call)
-unfolding called if◌then◌else◌
+unfolding called when◌then◌else◌
 called_of p c i call h =
     by_bool (ltb call.station p.stations)
     (λ e. rw e (by_bool (eqb call.number 0) (λ f. rw f tt) (λ f. rw f (by_bool (ltb call.output c) (λ g. rw g h) (λ g. rw g tt)))))
     (λ e. rw e tt)
 
 parse_by_lem : (p : Parameters) (c l : ℕ) (k : Kind) (b : Bytes) → Of (byte_at b 12) (parse_by p c l k b)
-unfolding parse_by clock_of if◌then◌else◌
+unfolding parse_by clock_of when◌then◌else◌
 parse_by_lem p c l NoKind b = tt
 parse_by_lem p c l ClockKind b = by_bool (eqb (length b) l) (λ e. rw e tt) (λ e. rw e tt)
 parse_by_lem p c l (CallKind action) b =
@@ -64,7 +64,7 @@ unfolding parse
 parse_of p c b = parse_by_lem p c (kind_row (byte_at b 0)).length (kind_row (byte_at b 0)).kind b
 
 judged_by_record_for : (i now : ℕ) (k : Station) (same : Bool) (f : Frame) → Of i f → For i (judged_by_record now k same f)
-unfolding judged_by_record judged_by_number retransmission_or_conflict if◌then◌else◌
+unfolding judged_by_record judged_by_number retransmission_or_conflict when◌then◌else◌
 judged_by_record_for i now k same (Bad r) h = tt
 judged_by_record_for i now k same (Clock t) h = by_bool (ltb t now) (λ e. rw e tt) (λ e. rw e tt)
 judged_by_record_for i now k same (Calls call) h =
@@ -110,5 +110,5 @@ module _ (e : Panel) (b : Bytes) (j : ℕ) (sized : j < length e.outputs) (bound
   -- any string of bytes, to any panel that keeps the rules
   pub others : panel_sound e ≡ true
       → get_or (frame_step e b).panel.outputs j fresh_output ≡ advance e.kept.time (frame_step e b).panel.kept.time (get_or e.outputs j fresh_output)
-  unfolding frame_step if◌then◌else◌
+  unfolding frame_step when◌then◌else◌
   others h = rw h (execute_other (decide e b) (decide_for e b) h)

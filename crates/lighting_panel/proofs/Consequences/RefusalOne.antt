@@ -7,7 +7,7 @@ use mathlib.Core.List.{List, [], ◌∷◌}
 use Prim.Native.Nat.{ℕ, zero, suc, ◌<◌}
 use native.Mathlib.Omega.{arith}
 use lib.ListN.{length, get_or}
-use Rattle.lighting_levels.specs.Paper.Choice.{if◌then◌else◌, ◌also◌, every}
+use Rattle.lighting_levels.specs.Paper.Choice.{when◌then◌else◌, ◌also◌, every}
 use Rattle.lighting_outputs.specs.declared.Parameters.{Parameters}
 use Rattle.lighting_frames.specs.Paper.Frames.{Bytes}
 use Rattle.lighting_outputs.specs.Paper.Fresh.{fresh_output}
@@ -19,12 +19,12 @@ use Rattle.lighting_panel.specs.Engine.Executing.{frame_step}
 use Rattle.lighting_outputs.specs.declared.Answer.TheVariants.{Refused}
 
 also_no : (one other : Bool) → other ≡ false → (one also other) ≡ false
-unfolding if◌then◌else◌
+unfolding when◌then◌else◌
 also_no true other fails = fails
 also_no false other fails = refl
 
 also_not : (one other : Bool) → one ≡ false → (one also other) ≡ false
-unfolding if◌then◌else◌
+unfolding when◌then◌else◌
 also_not one other fails = rw fails
 
 one_not : {A : Type 0} (test : A → Bool) (l : List A) (j : ℕ) (other : A) → j < length l → test (get_or l j other) ≡ false → every test l ≡ false
@@ -41,7 +41,7 @@ module _ (e : Panel) (b : Bytes) where
   One = frame_step e b ≡ panel_result e (Refused 1)
 
   unsound : panel_sound e ≡ false → One
-  unfolding frame_step if◌then◌else◌
+  unfolding frame_step when◌then◌else◌
   unsound broken = rw broken
 
   -- a kept number out of range, whatever else is lent

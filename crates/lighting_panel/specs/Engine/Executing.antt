@@ -1,7 +1,7 @@
 -- THE ENGINE carries a verdict out over the lent tables: `frame_step` is the right side of the contract of
 -- `panel::frame`.
 use Rattle.std.specs.Prelude.{map, set}
-use Rattle.lighting_levels.specs.Paper.Choice.{if◌then◌else◌}
+use Rattle.lighting_levels.specs.Paper.Choice.{when◌then◌else◌}
 use Rattle.lighting_frames.specs.Paper.Frames.{Bytes}
 use Rattle.lighting_outputs.specs.Engine.Advance.{advance}
 use Rattle.lighting_outputs.specs.Paper.Tenants.{is_tenant}
@@ -38,4 +38,4 @@ execute b e (Arrives call) =
 
 -- ONE FRAME, by the set that is kept
 unfoldable pub frame_step : Panel → Bytes → Step
-frame_step e b = if panel_sound e then execute b e (decide e b) else record { panel = e; answer = Refused 1 }
+frame_step e b = when panel_sound e then execute b e (decide e b) else record { panel = e; answer = Refused 1 }

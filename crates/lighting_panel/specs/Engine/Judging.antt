@@ -1,7 +1,7 @@
 -- THE ENGINE judges a frame by its station's record. What it judges over a list, Paper/Plain.antt judges from
 -- the list alone (`judged`); proofs/Lists.antt has that both come to the same.
 use Rattle.std.specs.Prelude.{Bool, ◌++◌, ℕ, ◌-◌, ltb, eqb, get_or, length, replicate, take}
-use Rattle.lighting_levels.specs.Paper.Choice.{if◌then◌else◌}
+use Rattle.lighting_levels.specs.Paper.Choice.{when◌then◌else◌}
 use Rattle.lighting_levels.specs.Paper.Field.{byte_at}
 use Rattle.lighting_frames.specs.Paper.Kinds.{longest_frame, kind_length}
 use Rattle.lighting_frames.specs.Paper.Frames.{Bytes, parse}
@@ -28,15 +28,15 @@ restored frame = take (kind_length (byte_at frame 0)) frame
 -- 1, 2, 3, 8'
 unfoldable pub judged_by_number : ℕ → Station → Bool → Call → Verdict
 judged_by_number now k same call =
-    if eqb call.number k.number then retransmission_or_conflict same k.answer
-    else if ltb call.number k.number then TurnedDown 7
-    else if ltb call.time now then TurnedDown 8
+    when eqb call.number k.number then retransmission_or_conflict same k.answer
+    else when ltb call.number k.number then TurnedDown 7
+    else when ltb call.time now then TurnedDown 8
     else Arrives call
 
 -- `same`: whether the frame's bytes are the ones that the station's record keeps
 unfoldable pub judged_by_record : ℕ → Station → Bool → Frame → Verdict
 judged_by_record now k same (Bad r) = TurnedDown r
-judged_by_record now k same (Clock t) = if ltb t now then TurnedDown 8 else Clocked t
+judged_by_record now k same (Clock t) = when ltb t now then TurnedDown 8 else Clocked t
 judged_by_record now k same (Calls call) = judged_by_number now k same call
 
 unfoldable pub station_of : Frame → ℕ

@@ -5,7 +5,7 @@
 -- proofs/OldPanel.antt and proofs/FourHours.antt: 'The old panel's set now ends in 14,400,000, 86,400,000,
 -- and equals it on lists without a longer fade time' (§7).
 use Rattle.std.specs.Prelude.{Bool, List, [], ◌∷◌, map, ℕ, leb, eqb, get_or, length, replicate}
-use Rattle.lighting_levels.specs.Paper.Choice.{if◌then◌else◌, ◌also◌, every}
+use Rattle.lighting_levels.specs.Paper.Choice.{when◌then◌else◌, ◌also◌, every}
 use Rattle.lighting_outputs.specs.declared.Parameters.{Parameters}
 use Rattle.lighting_outputs.specs.Paper.Parameters.{document01}
 use Rattle.lighting_outputs.specs.Paper.Fresh.{fresh_output}
@@ -56,7 +56,7 @@ old_sound e =
 -- the start: 'writes every lent record fresh and answers Done, or meets 1 by its counts alone'
 unfoldable pub old_start : OldPanel → OldStep
 old_start e =
-    if old_counts (length e.outputs) (length e.stations)
+    when old_counts (length e.outputs) (length e.stations)
     then record {
       panel =
           record {
@@ -78,7 +78,7 @@ unfoldable pub old_execute : Bytes → OldPanel → Verdict → OldStep
 old_execute b e v = let done = execute b (with_set numbers e) v in record { panel = without_set done.panel; answer = done.answer }
 
 unfoldable pub old_frame : OldPanel → Bytes → OldStep
-old_frame e b = if old_sound e then old_execute b e (old_decide e b) else record { panel = e; answer = Refused 1 }
+old_frame e b = when old_sound e then old_execute b e (old_decide e b) else record { panel = e; answer = Refused 1 }
 
 -- a list of frames; and what is found
 unfoldable pub old_after : OldPanel → List Bytes → OldPanel

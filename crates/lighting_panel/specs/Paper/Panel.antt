@@ -1,7 +1,7 @@
 -- The engine: the panel that judges a frame by its station's record and goes from due moment to due moment;
 -- and the start. What it judges over a list, Plain.antt judges from the list alone (`judged`).
 use Rattle.std.specs.Prelude.{Bool, List, ℕ, eqb, length, replicate}
-use Rattle.lighting_levels.specs.Paper.Choice.{if◌then◌else◌, ◌also◌, every}
+use Rattle.lighting_levels.specs.Paper.Choice.{when◌then◌else◌, ◌also◌, every}
 use Rattle.lighting_outputs.specs.declared.Parameters.{Parameters}
 use Rattle.lighting_outputs.specs.Paper.Parameters.{four_hours}
 use Rattle.lighting_outputs.specs.Paper.Startable.{startable}
@@ -73,9 +73,9 @@ fresh_panel p marks =
 
 unfoldable pub start_step : Parameters → ℕ → Panel → Step
 start_step p marks e =
-    if startable p
+    when startable p
     then (
-    if counts_sound p (length e.outputs) (length e.stations)
+    when counts_sound p (length e.outputs) (length e.stations)
     then record { panel = fresh_panel p marks; answer = Done }
     else record { panel = e; answer = Refused 1 }
     )

@@ -1,6 +1,6 @@
 -- 'The plain panel' over a list of frames: first arrivals, accepted clocks and copies, decided from the list.
 use Rattle.std.specs.Prelude.{Bool, true, List, [], ◌∷◌, map, ℕ, zero, suc, ◌-◌, leb, ltb, eqb, length, replicate}
-use Rattle.lighting_levels.specs.Paper.Choice.{if◌then◌else◌, ◌also◌}
+use Rattle.lighting_levels.specs.Paper.Choice.{when◌then◌else◌, ◌also◌}
 use Rattle.lighting_outputs.specs.declared.Parameters.{Parameters}
 use Rattle.lighting_frames.specs.Paper.Frames.{Bytes, parse}
 use Rattle.lighting_outputs.specs.Paper.Passing.{tick}
@@ -36,7 +36,7 @@ pub data Event : Type 0 where
 unfoldable pub above : ℕ → ℕ → List Event → Bool
 above s n [] = true
 above s n (clock t ∷ h) = above s n h
-above s n (first s' n' t b a ∷ h) = (if eqb s' s then ltb n' n else true) also above s n h
+above s n (first s' n' t b a ∷ h) = (when eqb s' s then ltb n' n else true) also above s n h
 
 -- 'its time not before the latest of earlier first arrivals and accepted clocks'
 unfoldable pub in_time : ℕ → List Event → Bool
@@ -53,18 +53,18 @@ pub record Latest : Type 0 where
 unfoldable pub latest : ℕ → List Event → Latest
 latest s [] = record { answer = Done; number = 0; frame = [] }
 latest s (clock t ∷ h) = latest s h
-latest s (first s' n t b a ∷ h) = if eqb s' s then record { answer = a; number = n; frame = b } else latest s h
+latest s (first s' n t b a ∷ h) = when eqb s' s then record { answer = a; number = n; frame = b } else latest s h
 
 -- A FRAME JUDGED over the list: 'a copy of its station's latest first arrival gets that one's answer, any
 -- other the first of refusals 2 to 8 that it meets, read over the list'
 unfoldable pub judged : List Event → Bytes → Frame → Verdict
 judged h b (Bad r) = TurnedDown r
-judged h b (Clock t) = if in_time t h then Clocked t else TurnedDown 8
+judged h b (Clock t) = when in_time t h then Clocked t else TurnedDown 8
 judged h b (Calls call) =
     let last = latest call.station h in
-    if above call.station call.number h
-    then (if in_time call.time h then Arrives call else TurnedDown 8)
-    else if eqb call.number last.number then retransmission_or_conflict (same_bytes b last.frame) last.answer
+    when above call.station call.number h
+    then (when in_time call.time h then Arrives call else TurnedDown 8)
+    else when eqb call.number last.number then retransmission_or_conflict (same_bytes b last.frame) last.answer
     else TurnedDown 7
 
 -- the plain panel, and what it was handed

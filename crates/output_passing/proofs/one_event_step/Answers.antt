@@ -1,7 +1,7 @@
-use Rattle.lighting_levels.specs.Paper.Choice.{if◌then◌else◌}
+use Rattle.lighting_levels.specs.Paper.Choice.{when◌then◌else◌}
 use Rattle.lighting_outputs.specs.Engine.Advance.{event_steps}
 use Rattle.output_passing.proofs.one_event_step.Goals as goal
 
 pub returns : goal.returns
-unfolding event_steps if◌then◌else◌
+unfolding event_steps when◌then◌else◌
 returns c = simp (c.stretch-2.ensures, c.stretch.ensures, c.next_due-d.ensures)
