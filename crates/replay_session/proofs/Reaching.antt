@@ -8,7 +8,7 @@ use lib.Dec.{eqb}
 use lib.ListN.{length, take, drop, length-drop}
 use lib.Seq.{take-add, take_all}
 use Rattle.std.specs.Prelude.{Result, Ok, Err, OnErr}
-use Rattle.lighting_levels.specs.Paper.Choice.{if◌then◌else◌}
+use Rattle.lighting_levels.specs.Paper.Choice.{when◌then◌else◌}
 use Rattle.lighting_frames.specs.Paper.Frames.{Bytes}
 use Rattle.lighting_panel.specs.Paper.Panel.{Panel}
 use Rattle.lighting_levels.proofs.Split.{by_bool}
@@ -23,7 +23,7 @@ use Rattle.replay_session.specs.Reached.{Reached, ReachedIn}
 
 -- a text after another
 after_good : (p : Panel) (w : Reader) (x y : Bytes) → (through p w x).good ≡ true → through p w (x ++ y) ≡ through (through p w x).panel (through p w x).reader y
-unfolding through if◌then◌else◌
+unfolding through when◌then◌else◌
 after_good p w [] y h = refl
 after_good p w (c ∷ x) y h =
     by_bool (eqb c 10)
@@ -40,7 +40,7 @@ line_ended : (p : Panel) (w : Reader) (x : Bytes) → line_length x < length x
       reader = (taken p (fed_line w x)).reader;
       good = (taken p (fed_line w x)).good;
     }
-unfolding through fed_line line_length if◌then◌else◌
+unfolding through fed_line line_length when◌then◌else◌
 line_ended p w [] h = absurd (omega (arith, h))
 line_ended p w (c ∷ x) h =
     by_bool (eqb c 10)
@@ -49,7 +49,7 @@ line_ended p w (c ∷ x) h =
 
 -- no newline in the text
 line_left : (p : Panel) (w : Reader) (x : Bytes) → length x ≤ line_length x → through p w x ≡ record { panel = p; reader = fed_line w x; good = true }
-unfolding through fed_line line_length if◌then◌else◌
+unfolding through fed_line line_length when◌then◌else◌
 line_left p w [] h = refl
 line_left p w (c ∷ x) h =
     by_bool (eqb c 10)
@@ -116,13 +116,13 @@ at_start p w Frame = refl
 at_start p w (Wrong f) = refl
 
 closed_end : (p : Panel) (w : Reader) → closed (record { panel = (taken p w).panel; reader = (taken p w).reader; good = true }) ≡ (taken p w).panel
-unfolding closed if◌then◌else◌
+unfolding closed when◌then◌else◌
 closed_end p w = taken_blank (taken p w).panel (taken p w).reader (unfold taken in (at_start p w (line_of w.held)))
 
 -- either no line of it ended, or a text of whole lines leaves the same
 whole_lines : {C : Type 0} (p : Panel) (w : Reader) (x : Bytes) → ((through p w x).panel ≡ p → C)
     → ((y : Bytes) → closed (through p w y) ≡ (through p w x).panel → C) → C
-unfolding through if◌then◌else◌
+unfolding through when◌then◌else◌
 whole_lines p w [] a b = a refl
 whole_lines p w (c ∷ x) a b =
     by_bool (eqb c 10)
@@ -142,4 +142,4 @@ replayed_part {p} {q} f =
     (λ y h. record { came = y; panel = f.panel ∙ sym (unfold finished in h) })
   where
     none : finished p [] ≡ p
-    none = unfold finished through closed if◌then◌else◌ fresh_reader in (taken_blank p fresh_reader refl)
+    none = unfold finished through closed when◌then◌else◌ fresh_reader in (taken_blank p fresh_reader refl)
