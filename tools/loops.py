@@ -17,7 +17,7 @@ bodies, loops = {}, {}
 for path in sorted(glob.glob('crates/*/src/*.rt')):
     crate = path.split('/')[1]
     text = re.sub(r'//.*', '', open(path).read())
-    starts = [(m.start(), m.group(1)) for m in re.finditer(r'\bfn (\w+)\s*\(', text)]
+    starts = [(m.start(), m.group(1)) for m in re.finditer(r'\bfn (\w+)\s*(?:<[^()]*>)?\s*\(', text)]
     for (at, name), (end, _) in zip(starts, starts[1:] + [(len(text), '')]):
         body = text[text.index('{\n', at):end] if '{\n' in text[at:end] else ''
         bodies['%s::%s' % (crate, name)] = body

@@ -2,6 +2,8 @@
 // in stdout.
 #![tactic(auto)]
 
-fn main() {
-    replay_session::run(false);
+use std::io;
+
+fn main(rt: HostRuntime) -> io::Result<()> {
+    replay_session::run(&mut rt.stdin(), &mut rt.stdout(), false)
 }

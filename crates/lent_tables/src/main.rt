@@ -2,6 +2,8 @@
 // answer and leave goes to standard output.
 #![tactic(auto)]
 
-fn main() {
-    lent_session::run();
+use std::io;
+
+fn main(rt: HostRuntime) -> io::Result<()> {
+    lent_session::run(&mut rt.stdin(), &mut rt.stdout())
 }

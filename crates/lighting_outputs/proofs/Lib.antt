@@ -21,4 +21,5 @@ pub mod Consequences
 pub mod Figures
 -- definitions by clauses, for proofs of code
 pub mod Laws
+
 -- for functions over a lent table

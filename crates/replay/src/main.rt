@@ -3,61 +3,50 @@
 // second one, is answered with a line that says how the program is called, and nothing is run.
 #![tactic(auto)]
 
-// Whether there is no argument here. `os::arg` answers 0 of one that is missing and of one that is longer
-// than the array, but of the latter it leaves the first bytes.
-fn is_missing(word: &[u8; 16], n: usize) -> bool {
-    if n != 0 {
-        return false;
+use std::env::FillError;
+use std::io;
+use std::io::Write;
+use std::rt::Env;
+
+// Whether there is no argument here. An empty one counts as none, and one that is longer than what it was read
+// into is there.
+fn is_missing(got: Result<usize, FillError>) -> bool {
+    match got {
+        Ok(n) => n == 0,
+        Err(FillError::NotPresent) => true,
+        Err(FillError::TooLong) => false,
     }
-    word[0] == 0
 }
 
 // Whether the argument is the word `report`.
-fn is_report(word: &[u8; 16], n: usize) -> bool {
-    if n != 6 {
-        return false;
+fn is_report(word: &[u8; 16], got: Result<usize, FillError>) -> bool {
+    match got {
+        Ok(n) => n == 6 && word.starts_with(b"report"),
+        Err(_) => false,
     }
-    if word[0] != b'r' {
-        return false;
-    }
-    if word[1] != b'e' {
-        return false;
-    }
-    if word[2] != b'p' {
-        return false;
-    }
-    if word[3] != b'o' {
-        return false;
-    }
-    if word[4] != b'r' {
-        return false;
-    }
-    word[5] == b't'
 }
 
-fn put_usage() {
-    io::write_all(
-        libc::STDOUT_FILENO,
+fn put_usage<W: Write>(out: &mut W) -> io::Result<()> {
+    out.write_all(
         b"usage: replay [report] < LIST   (LIST: a line `outputs N`, then a frame in hex to a line; see docs/FRAMES.md)\n",
-    );
+    )
 }
 
-fn main() {
+fn main(rt: HostRuntime) -> io::Result<()> {
+    let mut input = rt.stdin();
+    let mut out = rt.stdout();
     let mut word = [0u8; 16];
-    let n = os::arg(1, &mut word);
-    let mut second = [0u8; 16];
-    let m = os::arg(2, &mut second);
-    if !is_missing(&second, m) {
-        put_usage();
-        return;
+    let first = rt.arg(1, &mut word);
+    let mut other = [0u8; 16];
+    let second = rt.arg(2, &mut other);
+    if !is_missing(second) {
+        return put_usage(&mut out);
     }
-    if is_missing(&word, n) {
-        replay_session::run(false);
-        return;
+    if is_missing(first) {
+        return replay_session::run(&mut input, &mut out, false);
     }
-    if !is_report(&word, n) {
-        put_usage();
-        return;
+    if !is_report(&word, first) {
+        return put_usage(&mut out);
     }
-    replay_session::run(true);
+    replay_session::run(&mut input, &mut out, true)
 }

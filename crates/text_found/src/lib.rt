@@ -1,13 +1,16 @@
-// What is found of every output, on pages of text that are written to standard output: a block for each
-// output, or a line of the report.
+// What is found of every output, on pages of text that are written out: a block for each output, or a line of
+// the report. An error is always the writer's.
 #![tactic(auto)]
 
-ghost use Rattle.std.specs.Prelude.{◌≡◌, length, take};
+ghost use Rattle.std.specs.Prelude.{◌≡◌, IfOk, OnErr, OnOk, false, length, take};
+ghost use Rattle.std.specs.Io.KnownBytes.{Appends};
 ghost use Rattle.text_printing.specs.Page.{Wrote};
 ghost use Rattle.text_found.specs.Found.{found_head, found_output, roomy, marked, sheet, with_found};
+ghost use Rattle.text_found.specs.Partly.{FoundPartly};
 
-use libc::STDOUT_FILENO;
 use lighting_outputs::Output;
+use std::io;
+use std::io::Write;
 
 // A page with fewer free bytes than this is written out before more text is put on it. No answer's line and
 // no output's block is longer.
@@ -16,9 +19,11 @@ const ROOM: usize = 1024;
 // ---- pages
 
 // The page's text is written out.
-pub fn flush(page: &[u8], mark: usize) {
+pub fn flush<W: Write>(out: &mut W, page: &[u8], mark: usize) -> io::Result<()>
+    ensures { OnOk result (Appends (W.contents out.old) (W.contents out.new) (take mark page.now)) }
+{
     let n = number_ranges::least(mark, page.len());
-    io::write_all(STDOUT_FILENO, &page[0..n]);
+    out.write_all(&page[0..n])
 }
 
 #[tactic(auto, using(lighting_levels::proofs::Choosing::ifs), unfolding(crate::specs::Found::roomy))]
@@ -34,14 +39,15 @@ fn has_room(size: usize, mark: usize) -> bool
 
 // The mark of a page with room for more: a page that has too little is written out.
 #[tactic(auto, using(lighting_levels::proofs::Choosing::ifs), unfolding(crate::specs::Found::marked))]
-pub fn with_room(page: &[u8], mark: usize) -> usize
-    ensures { result ≡ marked (length page.now) mark }
+pub fn with_room<W: Write>(out: &mut W, page: &[u8], mark: usize) -> io::Result<usize>
+    ensures value { IfOk result (λ at. at ≡ marked (length page.now) mark) }
+    ensures err { OnErr result (roomy (length page.now) mark ≡ false) }
 {
     if has_room(page.len(), mark) {
-        return mark;
+        return Ok(mark);
     }
-    flush(page, mark);
-    0
+    flush(out, page, mark)?;
+    Ok(0)
 }
 
 // ---- what is found
@@ -71,25 +77,28 @@ fn put_head(page: &mut [u8], at: usize, report: bool, time: u64) -> usize
     }
 }
 
-// Every output of the panel, on as many pages as it takes: the last page, and its mark.
+// Every output of the panel, on as many pages as it takes: the last page, and its mark. An error leaves on the
+// page what some of the outputs, from the first on, put there.
 #[tactic(auto, using(crate::proofs::Sheets::found_begun, crate::proofs::Sheets::found_more, crate::proofs::Sheets::found_over))]
-pub fn put_found(
+pub fn put_found<W: Write>(
     outputs: &[Output],
     n: usize,
     time: u64,
+    out: &mut W,
     page: &mut [u8],
     mark: usize,
     report: bool,
-) -> usize
-    ensures { sheet page.new result ≡ with_found (sheet page.old mark) report time (take n outputs.now) }
+) -> io::Result<usize>
+    ensures value { IfOk result (λ at. sheet page.new at ≡ with_found (sheet page.old mark) report time (take n outputs.now)) }
+    ensures err { OnErr result (FoundPartly (sheet page.old mark) report time (take n outputs.now) page.new) }
 {
     let mut at = put_head(page, mark, report, time);
     let mut i: usize = 0;
     while i < number_ranges::least(n, outputs.len()) {
         let o = outputs[i];
-        let room = with_room(page, at);
+        let room = with_room(out, page, at)?;
         at = put_output(page, room, report, i as u64, time, o);
         i += 1;
     }
-    at
+    Ok(at)
 }
