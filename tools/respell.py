@@ -26,7 +26,7 @@ def snake(name):
 
 
 def is_answers(path):
-    return path.name in ("Proof.antt", "Answers.antt", "Invariants.antt")
+    return "proofs" in path.parts and path.name in ("Proof.antt", "Answers.antt", "Invariants.antt")
 
 
 WORD = re.compile(r"(?<![\w.'◌-])if(?![\w'◌-])")

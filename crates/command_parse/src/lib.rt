@@ -3,7 +3,7 @@
 #![tactic(auto)]
 
 ghost use Rattle.std.specs.Prelude.{◌≡◌};
-ghost use Rattle.lighting_outputs.specs.Paper.Answers.{levelRefusal};
+ghost use Rattle.lighting_outputs.specs.Paper.Answers.{level_refusal};
 ghost use Rattle.lighting_outputs.specs.Paper.Requests.{level_field_refusal, amount_field_refusal, time_field_refusal, first_refusal, fields_refusal, command_lasting, command_with_duration, command_request_by, command_of, plain_duration, command_request};
 ghost use Rattle.lighting_frames.specs.Paper.Frames.{tagged_request};
 
@@ -17,7 +17,7 @@ use lighting_outputs::{
 // ---- the ranges: 0, or the refusal of a field that is out of its range
 
 fn level_refusal(level: Level) -> u8
-    ensures { result ≡ levelRefusal level }
+    ensures { result ≡ level_refusal level }
 {
     match level {
         Level::Units(_) => 0,

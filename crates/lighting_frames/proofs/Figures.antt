@@ -15,7 +15,7 @@ use Rattle.lighting_outputs.specs.Paper.Writing.{end_movement_unless_above, stor
 use Rattle.lighting_outputs.specs.Paper.Operations.{operation_number, fields_of, duration_field}
 use Rattle.lighting_outputs.specs.Paper.Commands.{without_warning, activity_without_warning, replaced, placed, movement, ramp_length, target, faded_over, faded_to, ramped_at, ramped_to, jumped, went_to, step_up_from, step_down_from, stepped_up, stepped_down, raised, halted, stopped, relinquished, effect, timed, commanded_from, commanded}
 use Rattle.lighting_outputs.specs.Paper.Tenants.{is_tenant, whole_percent, shown_level, hidden}
-use Rattle.lighting_outputs.specs.Paper.Answers.{answerBytes, levelAnswered}
+use Rattle.lighting_outputs.specs.Paper.Answers.{answer_bytes, level_answered}
 use Rattle.lighting_outputs.specs.Paper.Rows.{within, is_level, is_amount, is_slot, is_priority, meets}
 use Rattle.lighting_outputs.specs.Paper.Properties.{numbered, property_of, same, change_to, change_by, change_of, settings_with, relay_with, end_movement, activity_with, burning_with, changed, min_over_max, level_answer, level_or_absent, slot_answer, flag, elapsed_active, real_answer, real_field_answer, time_field_answer, last_duration, read_property}
 use Rattle.lighting_outputs.specs.Paper.Fresh.{fresh_settings, fresh_relay, fresh_with, fresh_for, fresh_output}
@@ -29,10 +29,10 @@ use Rattle.lighting_frames.specs.Paper.WorkedTags.{commands_written, their_octet
 
 -- §1: the octets of commands
 pub tags_written : commands_written ≡ their_octets
-unfolding to_bits round bit_and bit_or of_bits when◌then◌else◌ all_from every real bits level_of real_of read_out real_from_to amount_of limit_of in_range units_or amount_units level_units view slots_of first_live winner is_live mask_emptied mask_filled level_set put level_at winning_level clamp_lit present_value distance_moved reached_by reached progress_by progress_value lit in_process binary_at switched relay_state inactive_not_below with_burning with_effect with_command with_settings lit_milliseconds with_burned timer_due phase_end activity_due is_due timer_at emptied_by expired end_movement_of end_movement_by end_movement_on_expiry delayed next_phase next_activity activity_at phase_slots next_slots slots_at after_events fire tick ticks last_short moment_after gone_at count_before count_since lit_from_zero lit_from_light lit_at lit_by_pace lit_moving lit_in_movement lit_resting lit_stretch sooner due burned_by with_burned_saturating fire_due event_step event_steps advance later end_movement_unless_above stored zero_or_empty zero_or_empty_from blinks zero_or_empty_above warns_by warns first_level first_phase warning_from warned_by warned ended_empty ended_stored written_warned written_zero written_calm written_by written activity_relinquished slot_relinquished operation_number fields_of duration_field without_warning activity_without_warning replaced placed movement ramp_length target faded_over faded_to ramped_at ramped_to jumped went_to step_up_from step_down_from stepped_up stepped_down raised halted stopped relinquished effect timed commanded_from commanded is_tenant whole_percent shown_level hidden answerBytes levelAnswered within is_level is_amount is_slot is_priority meets numbered property_of same change_to change_by change_of settings_with relay_with end_movement activity_with burning_with changed min_over_max level_answer level_or_absent slot_answer flag elapsed_active real_answer real_field_answer time_field_answer last_duration read_property fresh_settings fresh_relay fresh_with fresh_for fresh_output level_field_refusal amount_field_refusal time_field_refusal first_refusal fields_refusal command_lasting command_with_duration command_request_by command_of plain_duration command_request write_level write_of empty_of done unchanged changed_unless acted served byte_at big_endian octets kind_row kind_length calls_by is_call fewest_octets field_size sizes field_bytes bytes_from tag_bytes real_tag whole_tag tags_of command_tags zero_filled tagged_body body_bytes field_in fields_from body_fields zero_beyond holds_at_most well_tagged held_by operation_of time_of both_or_neither fewest own_tags read_fields read_body tagged_request request_of call_of called clock_of parse_by parse
+unfolding to_bits round bit_and bit_or of_bits when◌then◌else◌ all_from every real bits level_of real_of read_out real_from_to amount_of limit_of in_range units_or amount_units level_units view slots_of first_live winner is_live mask_emptied mask_filled level_set put level_at winning_level clamp_lit present_value distance_moved reached_by reached progress_by progress_value lit in_process binary_at switched relay_state inactive_not_below with_burning with_effect with_command with_settings lit_milliseconds with_burned timer_due phase_end activity_due is_due timer_at emptied_by expired end_movement_of end_movement_by end_movement_on_expiry delayed next_phase next_activity activity_at phase_slots next_slots slots_at after_events fire tick ticks last_short moment_after gone_at count_before count_since lit_from_zero lit_from_light lit_at lit_by_pace lit_moving lit_in_movement lit_resting lit_stretch sooner due burned_by with_burned_saturating fire_due event_step event_steps advance later end_movement_unless_above stored zero_or_empty zero_or_empty_from blinks zero_or_empty_above warns_by warns first_level first_phase warning_from warned_by warned ended_empty ended_stored written_warned written_zero written_calm written_by written activity_relinquished slot_relinquished operation_number fields_of duration_field without_warning activity_without_warning replaced placed movement ramp_length target faded_over faded_to ramped_at ramped_to jumped went_to step_up_from step_down_from stepped_up stepped_down raised halted stopped relinquished effect timed commanded_from commanded is_tenant whole_percent shown_level hidden answer_bytes level_answered within is_level is_amount is_slot is_priority meets numbered property_of same change_to change_by change_of settings_with relay_with end_movement activity_with burning_with changed min_over_max level_answer level_or_absent slot_answer flag elapsed_active real_answer real_field_answer time_field_answer last_duration read_property fresh_settings fresh_relay fresh_with fresh_for fresh_output level_field_refusal amount_field_refusal time_field_refusal first_refusal fields_refusal command_lasting command_with_duration command_request_by command_of plain_duration command_request write_level write_of empty_of done unchanged changed_unless acted served byte_at big_endian octets kind_row kind_length calls_by is_call fewest_octets field_size sizes field_bytes bytes_from tag_bytes real_tag whole_tag tags_of command_tags zero_filled tagged_body body_bytes field_in fields_from body_fields zero_beyond holds_at_most well_tagged held_by operation_of time_of both_or_neither fewest own_tags read_fields read_body tagged_request request_of call_of called clock_of parse_by parse
 tags_written = refl
 
 -- §1: the refusals of bodies
 pub tags_refused : refused ≡ refusals
-unfolding to_bits round bit_and bit_or of_bits when◌then◌else◌ all_from every real bits level_of real_of read_out real_from_to amount_of limit_of in_range units_or amount_units level_units view slots_of first_live winner is_live mask_emptied mask_filled level_set put level_at winning_level clamp_lit present_value distance_moved reached_by reached progress_by progress_value lit in_process binary_at switched relay_state inactive_not_below with_burning with_effect with_command with_settings lit_milliseconds with_burned timer_due phase_end activity_due is_due timer_at emptied_by expired end_movement_of end_movement_by end_movement_on_expiry delayed next_phase next_activity activity_at phase_slots next_slots slots_at after_events fire tick ticks last_short moment_after gone_at count_before count_since lit_from_zero lit_from_light lit_at lit_by_pace lit_moving lit_in_movement lit_resting lit_stretch sooner due burned_by with_burned_saturating fire_due event_step event_steps advance later end_movement_unless_above stored zero_or_empty zero_or_empty_from blinks zero_or_empty_above warns_by warns first_level first_phase warning_from warned_by warned ended_empty ended_stored written_warned written_zero written_calm written_by written activity_relinquished slot_relinquished operation_number fields_of duration_field without_warning activity_without_warning replaced placed movement ramp_length target faded_over faded_to ramped_at ramped_to jumped went_to step_up_from step_down_from stepped_up stepped_down raised halted stopped relinquished effect timed commanded_from commanded is_tenant whole_percent shown_level hidden answerBytes levelAnswered within is_level is_amount is_slot is_priority meets numbered property_of same change_to change_by change_of settings_with relay_with end_movement activity_with burning_with changed min_over_max level_answer level_or_absent slot_answer flag elapsed_active real_answer real_field_answer time_field_answer last_duration read_property fresh_settings fresh_relay fresh_with fresh_for fresh_output level_field_refusal amount_field_refusal time_field_refusal first_refusal fields_refusal command_lasting command_with_duration command_request_by command_of plain_duration command_request write_level write_of empty_of done unchanged changed_unless acted served byte_at big_endian octets kind_row kind_length calls_by is_call fewest_octets field_size sizes field_bytes bytes_from tag_bytes real_tag whole_tag tags_of command_tags zero_filled tagged_body body_bytes field_in fields_from body_fields zero_beyond holds_at_most well_tagged held_by operation_of time_of both_or_neither fewest own_tags read_fields read_body tagged_request request_of call_of called clock_of parse_by parse
+unfolding to_bits round bit_and bit_or of_bits when◌then◌else◌ all_from every real bits level_of real_of read_out real_from_to amount_of limit_of in_range units_or amount_units level_units view slots_of first_live winner is_live mask_emptied mask_filled level_set put level_at winning_level clamp_lit present_value distance_moved reached_by reached progress_by progress_value lit in_process binary_at switched relay_state inactive_not_below with_burning with_effect with_command with_settings lit_milliseconds with_burned timer_due phase_end activity_due is_due timer_at emptied_by expired end_movement_of end_movement_by end_movement_on_expiry delayed next_phase next_activity activity_at phase_slots next_slots slots_at after_events fire tick ticks last_short moment_after gone_at count_before count_since lit_from_zero lit_from_light lit_at lit_by_pace lit_moving lit_in_movement lit_resting lit_stretch sooner due burned_by with_burned_saturating fire_due event_step event_steps advance later end_movement_unless_above stored zero_or_empty zero_or_empty_from blinks zero_or_empty_above warns_by warns first_level first_phase warning_from warned_by warned ended_empty ended_stored written_warned written_zero written_calm written_by written activity_relinquished slot_relinquished operation_number fields_of duration_field without_warning activity_without_warning replaced placed movement ramp_length target faded_over faded_to ramped_at ramped_to jumped went_to step_up_from step_down_from stepped_up stepped_down raised halted stopped relinquished effect timed commanded_from commanded is_tenant whole_percent shown_level hidden answer_bytes level_answered within is_level is_amount is_slot is_priority meets numbered property_of same change_to change_by change_of settings_with relay_with end_movement activity_with burning_with changed min_over_max level_answer level_or_absent slot_answer flag elapsed_active real_answer real_field_answer time_field_answer last_duration read_property fresh_settings fresh_relay fresh_with fresh_for fresh_output level_field_refusal amount_field_refusal time_field_refusal first_refusal fields_refusal command_lasting command_with_duration command_request_by command_of plain_duration command_request write_level write_of empty_of done unchanged changed_unless acted served byte_at big_endian octets kind_row kind_length calls_by is_call fewest_octets field_size sizes field_bytes bytes_from tag_bytes real_tag whole_tag tags_of command_tags zero_filled tagged_body body_bytes field_in fields_from body_fields zero_beyond holds_at_most well_tagged held_by operation_of time_of both_or_neither fewest own_tags read_fields read_body tagged_request request_of call_of called clock_of parse_by parse
 tags_refused = refl

@@ -8,7 +8,7 @@ use native.Mathlib.Nat.{div-one, div-div-eq-div-mul}
 use native.Mathlib.Omega.{arith}
 use lib.ListN.{get_or}
 use Rattle.lighting_levels.specs.Paper.Field.{byte_at, big_endian, octets}
-use Rattle.lighting_outputs.specs.Paper.Answers.{answerBytes, value_of}
+use Rattle.lighting_outputs.specs.Paper.Answers.{answer_bytes, value_of}
 use Rattle.lighting_outputs.specs.declared.Answer.{Answer}
 use Rattle.lighting_outputs.specs.declared.Answer.TheVariants.{Done, Value, Absent, Refused}
 
@@ -31,14 +31,14 @@ refusal_of (Value v) = 0
 refusal_of Absent = 0
 refusal_of (Refused n) = n
 
-refused_bytes : (a : Answer) (n : ℕ) → answerBytes a ≡ answerBytes (Refused n) → refusal_of a ≡ n
-unfolding answerBytes octets
+refused_bytes : (a : Answer) (n : ℕ) → answer_bytes a ≡ answer_bytes (Refused n) → refusal_of a ≡ n
+unfolding answer_bytes octets
 refused_bytes Done n h = let z : ◌≡◌ {A = ℕ} 0x80 0x83 = ap (λ (l : List ℕ). get_or l 0 0) h in absurd (omega arith)
 refused_bytes (Value v) n h = let z : ◌≡◌ {A = ℕ} 0x81 0x83 = ap (λ (l : List ℕ). get_or l 0 0) h in absurd (omega arith)
 refused_bytes Absent n h = let z : ◌≡◌ {A = ℕ} 0x82 0x83 = ap (λ (l : List ℕ). get_or l 0 0) h in absurd (omega arith)
 refused_bytes (Refused m) n h = ap (λ (l : List ℕ). get_or l 1 0) h
 
-pub never_bytes : (a : Answer) (n : ℕ) → refusal_of a ≢ n → answerBytes a ≢ answerBytes (Refused n)
+pub never_bytes : (a : Answer) (n : ℕ) → refusal_of a ≢ n → answer_bytes a ≢ answer_bytes (Refused n)
 never_bytes a n h e = h (refused_bytes a n e)
 
 -- 'a Value of 32 bits'
@@ -58,8 +58,8 @@ other : {A : Type 0} {a b : ℕ} {k l : List ℕ} → a ≢ b → a ∷ k ≡ b 
 other n h = absurd (n (first_byte h))
 
 -- NO TWO ANSWERS have the same bytes
-pub told_apart : (a b : Answer) → Fits a → Fits b → answerBytes a ≡ answerBytes b → a ≡ b
-unfolding answerBytes
+pub told_apart : (a b : Answer) → Fits a → Fits b → answer_bytes a ≡ answer_bytes b → a ≡ b
+unfolding answer_bytes
 told_apart Done Done f g h = refl
 told_apart Done (Value v) f g h = other (omega arith) h
 told_apart Done Absent f g h = other (omega arith) h
@@ -81,8 +81,8 @@ told_apart (Refused m) Absent f g h = other (omega arith) h
 told_apart (Refused m) (Refused n) f g h = let e : m ≡ n = first_byte (other_bytes h) in ap Refused e
 
 -- the value that is printed is the one of the bytes
-pub value_bytes : (a : Answer) (v : ℕ) → value_of a ≡ some v → answerBytes a ≡ answerBytes (Value v)
+pub value_bytes : (a : Answer) (v : ℕ) → value_of a ≡ some v → answer_bytes a ≡ answer_bytes (Value v)
 value_bytes Done v h = let z : ◌≡◌ {A = ℕ} 0 1 = cc in absurd (omega arith)
-value_bytes (Value w) v h = let e : w ≡ v = cc in ap (λ (x : ℕ). answerBytes (Value x)) e
+value_bytes (Value w) v h = let e : w ≡ v = cc in ap (λ (x : ℕ). answer_bytes (Value x)) e
 value_bytes Absent v h = let z : ◌≡◌ {A = ℕ} 0 1 = cc in absurd (omega arith)
 value_bytes (Refused n) v h = let z : ◌≡◌ {A = ℕ} 0 1 = cc in absurd (omega arith)

@@ -5,7 +5,7 @@ use Rattle.lighting_levels.specs.declared.Level.{Level}
 use Rattle.lighting_outputs.specs.Engine.Advance.{sooner}
 use Rattle.lighting_outputs.specs.Engine.Light.{count_before, count_since, lit_by_pace, lit_in_movement}
 use Rattle.lighting_outputs.specs.Paper.Acting.{acted, served, Served}
-use Rattle.lighting_outputs.specs.Paper.Answers.{answerBytes, levelAnswered}
+use Rattle.lighting_outputs.specs.Paper.Answers.{answer_bytes, level_answered}
 use Rattle.lighting_outputs.specs.Paper.Commands.{without_warning, activity_without_warning, stopped, effect, timed}
 use Rattle.lighting_outputs.specs.Paper.Operations.{operation_number, fields_of, duration_field}
 use Rattle.lighting_outputs.specs.Paper.Parameters.{Parameters}
@@ -63,10 +63,10 @@ acted_on x0 x1 x2 x3 k r e p = rw e p
 pub served_on : (x0 : Bool) (x1 : ℕ) (x2 : List Output) (x3 : ℕ) (x4 : Request) (k : Request) (r : Served) → x4 ≡ k → r ≡ served x0 x1 x2 x3 k → r ≡ served x0 x1 x2 x3 x4
 served_on x0 x1 x2 x3 x4 k r e p = rw e p
 
-pub answer_bytes_on : (x0 : Answer) (k : Answer) (r : List ℕ) → x0 ≡ k → r ≡ answerBytes k → r ≡ answerBytes x0
+pub answer_bytes_on : (x0 : Answer) (k : Answer) (r : List ℕ) → x0 ≡ k → r ≡ answer_bytes k → r ≡ answer_bytes x0
 answer_bytes_on x0 k r e p = rw e p
 
-pub level_answered_on : (x0 : Level) (k : Level) (r : Answer) → x0 ≡ k → r ≡ levelAnswered k → r ≡ levelAnswered x0
+pub level_answered_on : (x0 : Level) (k : Level) (r : Answer) → x0 ≡ k → r ≡ level_answered k → r ≡ level_answered x0
 level_answered_on x0 k r e p = rw e p
 
 pub without_warning_on : (x0 : Slots) (x1 : Activity) (k : Activity) (r : Slots) → x1 ≡ k → r ≡ without_warning x0 k → r ≡ without_warning x0 x1

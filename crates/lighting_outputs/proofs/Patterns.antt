@@ -11,7 +11,7 @@ use Rattle.lighting_levels.specs.declared.Level.TheVariants.{Units, OutOfRange}
 use Rattle.lighting_levels.proofs.Split.{by_bool}
 use Rattle.lighting_levels.specs.Paper.Level.{real, bits, level_of, amount_of, in_range}
 use Rattle.lighting_outputs.specs.Paper.Rows.{is_amount}
-use Rattle.lighting_outputs.specs.Paper.Answers.{levelRefusal}
+use Rattle.lighting_outputs.specs.Paper.Answers.{level_refusal}
 use Rattle.lighting_outputs.specs.Paper.Requests.{level_field_refusal, amount_field_refusal}
 use Rattle.lighting_outputs.specs.declared.RealField.TheVariants.{Real}
 
@@ -46,7 +46,7 @@ kept f b o h t =
     record { read = refl; written = bits_kept b h number; in_range_lem = t }
 
 -- a level, and a rate or step, of a command
-within_range : (l : Level) → levelRefusal l ≡ 0 → in_range l ≡ true
+within_range : (l : Level) → level_refusal l ≡ 0 → in_range l ≡ true
 unfolding in_range
 within_range (Units v) h = refl
 within_range OutOfRange h = absurd (omega arith)

@@ -17,7 +17,7 @@ use Rattle.lighting_outputs.specs.Paper.Tenants.{is_tenant, for_tenant}
 use Rattle.lighting_outputs.specs.Paper.Properties.{property_of, read_property}
 use Rattle.lighting_outputs.specs.Paper.Acting.{unchanged, acted, served}
 use Rattle.lighting_outputs.specs.Paper.Learnt.{Learnt, the_settings, the_relay_settings, the_slots, the_last_command, the_process, the_binary_value, the_burning_time, the_present_value, the_progress_value, AlikeIn}
-use Rattle.lighting_outputs.specs.Paper.Answers.{answerBytes}
+use Rattle.lighting_outputs.specs.Paper.Answers.{answer_bytes}
 use Rattle.lighting_outputs.specs.declared.Answer.{Answer}
 use Rattle.lighting_frames.specs.Paper.Kinds.{kind_row}
 use Rattle.lighting_frames.specs.Paper.Frames.{Bytes, Octets, request_of, call_of, called, parse_by, parse}
@@ -236,7 +236,7 @@ all_premises (learnt the_present_value) = refl
 all_premises (learnt the_progress_value) = refl
 
 -- answers whose bytes differ are different
-pub apart_answers : (a a' : Answer) → same_bytes (answerBytes a) (answerBytes a') ≡ false → a ≢ a'
+pub apart_answers : (a a' : Answer) → same_bytes (answer_bytes a) (answer_bytes a') ≡ false → a ≢ a'
 apart_answers a a' differ same =
     false≢true
-    (sym differ ∙ ap (λ (x : Answer). same_bytes (answerBytes a) (answerBytes x)) (sym same) ∙ same_self (answerBytes a))
+    (sym differ ∙ ap (λ (x : Answer). same_bytes (answer_bytes a) (answer_bytes x)) (sym same) ∙ same_self (answer_bytes a))

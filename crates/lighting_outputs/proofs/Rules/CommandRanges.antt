@@ -7,7 +7,7 @@ use native.Mathlib.Omega.{arith}
 use lib.Dec.{eqb}
 use Rattle.lighting_levels.specs.Paper.Choice.{when◌then◌else◌}
 use Rattle.lighting_outputs.specs.Paper.Parameters.{Parameters}
-use Rattle.lighting_outputs.specs.Paper.Answers.{levelRefusal}
+use Rattle.lighting_outputs.specs.Paper.Answers.{level_refusal}
 use Rattle.lighting_levels.specs.Paper.Level.{level_of, amount_of}
 use Rattle.lighting_outputs.specs.Paper.Operations.{fields_of, duration_field}
 use Rattle.lighting_outputs.specs.Paper.Rows.{row_of, within, meets}
@@ -34,7 +34,7 @@ use Rattle.lighting_outputs.proofs.Rules.RequestInRange.{OperationInRange, Reque
 abbrev Fit : ℕ → Type 0
 Fit r = r ≢ 0 → 9 ≤ r
 
-level_fit : (x : Level) → Fit (levelRefusal x)
+level_fit : (x : Level) → Fit (level_refusal x)
 level_fit (Units v) n = absurd (n refl)
 level_fit OutOfRange n = omega arith
 

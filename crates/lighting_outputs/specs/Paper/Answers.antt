@@ -11,11 +11,11 @@ use Rattle.lighting_levels.specs.declared.Level.TheVariants.{Units, OutOfRange}
 -- THE NUMBER AND THE VALUES OF EVERY ANSWER, as the bytes by which a bus log writes it down: 80 Done; 81
 -- Value, its 32 bits; 82 Absent; 83 Refused, its number. No two answers have the same
 -- (proofs/AnswersApart.antt, `told_apart`)
-unfoldable pub answerBytes : Answer → List ℕ
-answerBytes Done = 0x80 ∷ []
-answerBytes (Value v) = 0x81 ∷ octets 4 v
-answerBytes Absent = 0x82 ∷ []
-answerBytes (Refused n) = 0x83 ∷ n ∷ []
+unfoldable pub answer_bytes : Answer → List ℕ
+answer_bytes Done = 0x80 ∷ []
+answer_bytes (Value v) = 0x81 ∷ octets 4 v
+answer_bytes Absent = 0x82 ∷ []
+answer_bytes (Refused n) = 0x83 ∷ n ∷ []
 
 -- the value of 32 bits, where there is one
 abbrev pub value_of : Answer → Option ℕ
@@ -25,11 +25,11 @@ value_of Absent = none
 value_of (Refused n) = none
 
 -- a REAL turned into units: 'REAL out of range' is 11
-abbrev pub levelRefusal : Level → ℕ
-levelRefusal (Units v) = 0
-levelRefusal OutOfRange = 11
+abbrev pub level_refusal : Level → ℕ
+level_refusal (Units v) = 0
+level_refusal OutOfRange = 11
 
 -- a level as a value, or its refusal
-unfoldable pub levelAnswered : Level → Answer
-levelAnswered (Units v) = Value v
-levelAnswered OutOfRange = Refused (levelRefusal OutOfRange)
+unfoldable pub level_answered : Level → Answer
+level_answered (Units v) = Value v
+level_answered OutOfRange = Refused (level_refusal OutOfRange)

@@ -10,7 +10,7 @@ use Rattle.lighting_outputs.specs.Paper.Writing.{written}
 use Rattle.lighting_outputs.specs.Paper.Commands.{commanded}
 use Rattle.lighting_outputs.specs.Paper.Properties.{changed, flag}
 use Rattle.lighting_outputs.specs.Paper.Fresh.{fresh_output}
-use Rattle.lighting_outputs.specs.Paper.Answers.{levelAnswered}
+use Rattle.lighting_outputs.specs.Paper.Answers.{level_answered}
 use Rattle.lighting_outputs.specs.declared.Answer.{Answer}
 use Rattle.lighting_outputs.specs.declared.Answer.TheVariants.{Value, Refused}
 use Rattle.lighting_outputs.specs.declared.Duration.{Duration}
@@ -58,10 +58,10 @@ warned = written 1000 (changed (changed (changed half BlinkEnable 1) BlinkTime 7
 -- WHAT THE DEFINITIONS GIVE, figure after figure
 abbrev pub given : List (List Answer)
 given =
-    map (λ (b : ℕ). levelAnswered (level_of (real b))) (0x4248_0000 ∷ [])
-    ∷ map (λ (b : ℕ). levelAnswered (level_of (real b))) (0x3f00_0000 ∷ 0x0000_0001 ∷ 0x8000_0000 ∷ [])
-    ∷ map (λ (b : ℕ). levelAnswered (level_of (real b))) (0x42c8_0000 ∷ 0x42c8_0001 ∷ 0xbf80_0000 ∷ 0x7fc0_0000 ∷ [])
-    ∷ map (λ (b : ℕ). levelAnswered (level_of (real b))) (0x3f80_0040 ∷ 0x3f80_00c0 ∷ [])
+    map (λ (b : ℕ). level_answered (level_of (real b))) (0x4248_0000 ∷ [])
+    ∷ map (λ (b : ℕ). level_answered (level_of (real b))) (0x3f00_0000 ∷ 0x0000_0001 ∷ 0x8000_0000 ∷ [])
+    ∷ map (λ (b : ℕ). level_answered (level_of (real b))) (0x42c8_0000 ∷ 0x42c8_0001 ∷ 0xbf80_0000 ∷ 0x7fc0_0000 ∷ [])
+    ∷ map (λ (b : ℕ). level_answered (level_of (real b))) (0x3f80_0040 ∷ 0x3f80_00c0 ∷ [])
     ∷ (progresses 0 333 fade_up ∷ progresses 0 999 fade_up ∷ progresses 0 1000 fade_up ∷ [])
     ∷ (progresses 0 333 fade_down ∷ [])
     ∷ (progresses 0 333 ramp_up ∷ moves 0 333 ramp_up ∷ moves 0 334 ramp_up ∷ moves 0 799999 slow_ramp ∷ moves 0 800000 slow_ramp ∷ [])

@@ -4,7 +4,7 @@ use Rattle.std.specs.Prelude.{Bool, List, [], ◌∷◌, ℕ, ◌+◌, ◌-◌, 
 use Rattle.std.proofs.Math.Option.{Option, none, some}
 use Rattle.lighting_levels.specs.Paper.Choice.{when◌then◌else◌}
 use Rattle.lighting_outputs.specs.Paper.Parameters.{Parameters}
-use Rattle.lighting_outputs.specs.Paper.Answers.{levelRefusal}
+use Rattle.lighting_outputs.specs.Paper.Answers.{level_refusal}
 use Rattle.lighting_levels.specs.Paper.Level.{real, bits, read_out, level_of, limit_of}
 use Rattle.lighting_outputs.specs.Paper.Slots.{Slots, slot}
 use Rattle.lighting_outputs.specs.Paper.Value.{present_value, progress_value, in_process}
@@ -113,12 +113,12 @@ same one other = eqb (number_of one) (number_of other)
 -- 12
 unfoldable pub change_to : Property → Level → Request
 change_to property (Units v) = ToOutput (Change property v)
-change_to property OutOfRange = Refuse (levelRefusal OutOfRange)
+change_to property OutOfRange = Refuse (level_refusal OutOfRange)
 
 unfoldable pub change_by : Range → Property → ℕ → Request
 change_by Percent property x = change_to property (level_of (real x))
 change_by Limit property x = change_to property (limit_of (real x))
-change_by Amount property x = when is_amount (real x) then ToOutput (Change property x) else Refuse (levelRefusal OutOfRange)
+change_by Amount property x = when is_amount (real x) then ToOutput (Change property x) else Refuse (level_refusal OutOfRange)
 change_by (Whole low high) property x = when within low high x then ToOutput (Change property x) else Refuse 12
 change_by Priority property x = when is_priority x then ToOutput (Change property (x - 1)) else Refuse 10
 change_by ReadOnly property x = Refuse 9

@@ -3,7 +3,7 @@
 use Rattle.std.specs.Prelude.{ℕ, ◌-◌, eqb}
 use Rattle.lighting_levels.specs.Paper.Choice.{when◌then◌else◌}
 use Rattle.lighting_outputs.specs.Paper.Parameters.{Parameters}
-use Rattle.lighting_outputs.specs.Paper.Answers.{levelRefusal}
+use Rattle.lighting_outputs.specs.Paper.Answers.{level_refusal}
 use Rattle.lighting_levels.specs.Paper.Level.{real, level_of, amount_of}
 use Rattle.lighting_outputs.specs.Paper.Rows.{row_of, within, is_priority, meets}
 use Rattle.lighting_outputs.specs.Paper.Operations.{fields_of}
@@ -25,11 +25,11 @@ use Rattle.lighting_outputs.specs.declared.OutputRequest.TheVariants.{Write, Emp
 -- range or not there. 'REAL out of range' is 11, of a level and of a rate or step; 'Fade times: 100 to
 -- 86,400,000', which is Fade_Time's row, else 12
 unfoldable pub level_field_refusal : RealField → ℕ
-level_field_refusal (Real x) = levelRefusal (level_of x)
+level_field_refusal (Real x) = level_refusal (level_of x)
 level_field_refusal NoReal = 0
 
 unfoldable pub amount_field_refusal : RealField → ℕ
-amount_field_refusal (Real x) = levelRefusal (amount_of x)
+amount_field_refusal (Real x) = level_refusal (amount_of x)
 amount_field_refusal NoReal = 0
 
 unfoldable pub time_field_refusal : Parameters → TimeField → ℕ
@@ -74,7 +74,7 @@ command_request p operation d = command_of p operation (plain_duration d)
 -- KINDS 02 TO 05. Kind 02: priority, then REAL
 unfoldable pub write_level : ℕ → Level → Request
 write_level i (Units v) = ToOutput (Write i v)
-write_level i OutOfRange = Refuse (levelRefusal OutOfRange)
+write_level i OutOfRange = Refuse (level_refusal OutOfRange)
 
 unfoldable pub write_of : ℕ → ℕ → Request
 write_of n pattern = when is_priority n then write_level (n - 1) (level_of (real pattern)) else Refuse 10

@@ -6,7 +6,7 @@ use Rattle.lighting_outputs.specs.declared.Parameters.{Parameters}
 use Rattle.lighting_frames.specs.Paper.Frames.{Bytes}
 use Rattle.lighting_outputs.specs.Paper.Slots.{slots_of}
 use Rattle.lighting_outputs.specs.Paper.Value.{present_value, progress_value, in_process}
-use Rattle.lighting_outputs.specs.Paper.Answers.{answerBytes}
+use Rattle.lighting_outputs.specs.Paper.Answers.{answer_bytes}
 use Rattle.lighting_panel.specs.Paper.Panel.{Panel, panel_sound, start_step}
 use Rattle.lighting_panel.specs.Engine.Executing.{frame_step}
 use Rattle.lighting_panel.specs.Paper.Plain.{Plain, PlainState, plain_frame_step, plain_start}
@@ -91,7 +91,7 @@ answers_to_originals (copy m r) (a ∷ z) = answers_to_originals r z
 
 -- 'Refusal 1 never comes'
 abbrev pub NeverOne : List Answer → Type 0
-NeverOne given = Every (λ (a : Answer). answerBytes a ≢ answerBytes (Refused 1)) given
+NeverOne given = Every (λ (a : Answer). answer_bytes a ≢ answer_bytes (Refused 1)) given
 
 -- THE DEMAND, for a set of parameters p, any marks, a lent table e, a list of frames l, and the list l' in
 -- which frames of l come again
