@@ -100,7 +100,7 @@ def operand(tokens, i, step):
     while 0 <= i + step < len(tokens):
         word = tokens[i + step].group()
         depth += step * ((word in '({') - (word in ')}'))
-        if depth < 0 or depth == 0 and word in ('also', 'if', 'then', 'else', ';', ','):
+        if depth < 0 or depth == 0 and word in ('also', 'when', 'then', 'else', ';', ','):
             break
         i += step
     return tokens[i]
@@ -121,10 +121,10 @@ def of_clause(plain, start, end, fields):
             for part in re.finditer(r'\.([a-z]\w*)', word):
                 for other in sorted(fields.get(part.group(1), [])):
                     yield m.start() + part.start(), m.start() + part.end(), '.' + other, []
-        elif word == 'if':
+        elif word == 'when':
             nested = 0
             for t in tokens[i + 1:]:
-                nested += (t.group() == 'if') - (t.group() == 'then')
+                nested += (t.group() == 'when') - (t.group() == 'then')
                 if nested < 0:
                     yield m.end(), t.start(), ' not (%s) ' % ' '.join(plain[m.end():t.start()].split()), ['not']
                     break

@@ -1,5 +1,5 @@
--- `start_step`, `frame_step` and `execute` on each of their ways, as the code over the lent tables takes them;
--- and what a verdict is sure of.
+-- `start_step`, `frame_step` and `execute` on each of their ways, as the code over the lent tables takes
+-- them; and what a verdict is sure of.
 --
 use mathlib.Core.Path.{◌≡◌, refl, ap₂}
 use mathlib.Core.Bool.{Bool, true, false}

@@ -8,8 +8,8 @@ use std::io;
 use std::io::Write;
 use std::rt::Env;
 
-// Whether there is no argument here. An empty one counts as none, and one that is longer than what it was read
-// into is there.
+// Whether there is no argument here. An empty one counts as none, and one that is longer than what it was
+// read into is there.
 fn is_missing(got: Result<usize, FillError>) -> bool {
     match got {
         Ok(n) => n == 0,

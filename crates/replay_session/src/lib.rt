@@ -1,9 +1,10 @@
-// A list of frames, read and replayed over a panel: a line for each answer, then what is found of every output,
-// or a report for people in place of that. A bad line ends it with a line that says what is wrong and where.
+// A list of frames, read and replayed over a panel: a line for each answer, then what is found of every
+// output, or a report for people in place of that. A bad line ends it with a line that says what is wrong and
+// where.
 //
 // Thin: the crate `replay_line` takes each line, `text_reading` its characters, and `text_found` says what is
-// found. Input and output go by pages of 64 KiB, so that memory does not grow with the list. An error is always
-// the reader's or the writer's, and ends the session: the tables are then what the text before it made.
+// found. Input and output go by pages of 64 KiB, so that memory does not grow with the list. An error is
+// always the reader's or the writer's, and ends the session: the tables are then what the text before it made.
 #![tactic(auto)]
 
 ghost use Rattle.std.specs.Prelude.{◌≡◌, IfOk, OnErr, OnOk};

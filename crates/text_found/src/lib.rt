@@ -77,8 +77,8 @@ fn put_head(page: &mut [u8], at: usize, report: bool, time: u64) -> usize
     }
 }
 
-// Every output of the panel, on as many pages as it takes: the last page, and its mark. An error leaves on the
-// page what some of the outputs, from the first on, put there.
+// Every output of the panel, on as many pages as it takes: the last page, and its mark. An error leaves on
+// the page what some of the outputs, from the first on, put there.
 #[tactic(auto, using(crate::proofs::Sheets::found_begun, crate::proofs::Sheets::found_more, crate::proofs::Sheets::found_over))]
 pub fn put_found<W: Write>(
     outputs: &[Output],

@@ -109,7 +109,8 @@ slots_at t a s = when is_due t (activity_due a) then next_slots a s else s
 unfoldable pub after_events : Output → Output
 after_events o = with_relay o (switched (present_value o.settings o.slots) o.relay)
 
--- all of it. 'then Progress_Value by the movement's formula': it is not kept, `progress_value` has the formula
+-- all of it. 'then Progress_Value by the movement's formula': it is not kept, `progress_value` has the
+-- formula
 unfoldable pub fire : ℕ → Output → Output
 fire t o =
     after_events
