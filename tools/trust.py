@@ -3,12 +3,16 @@
 
 It counts the lines of the definitions, of the statement of demand 3 and of the contracts of `panel::start` and `panel::frame`, and the functions of each
 crate. A foreign function (a block `extern`), an axiom or a hole in any crate is an error. With LOG, what `rt ci` printed, it is an error too if a crate is
-not proved there, or rests on an axiom or a foreign function by its last line. With --check nothing is written, and a stale count is an error too."""
+not proved there (or kept), or rests on contracts of C functions of the kit's libraries other than those of the three programs' input and output below.
+With --check nothing is written, and a stale count is an error too."""
 import glob
 import os
 import re
 import sys
 
+# the contracts of the kit's C functions that a program's input and output rest on, through `std`, and no others
+IO = ['libc::read', 'libc::write', 'os::c::__xpg_strerror_r', 'os::c::rattle_errno']
+AXIOMS = {'replay': IO + ['os::c::rattle_arg', 'os::c::rattle_set_errno'], 'bench_figures': IO, 'lent_tables': IO}
 PAGE = 'docs/TRUST.md'
 BEGIN, END = '<!-- made by tools/trust.py -->', '<!-- to here -->'
 
@@ -62,7 +66,13 @@ for path in [word for word in sys.argv[1:] if word != '--check']:
     log = read(path)
     proved = set(re.findall(r'^rt: (\w+) (?:proved|is kept: .*)$', log, re.M))
     faults += ['%s is not proved by %s' % (name, path) for name in crates() if name not in proved]
-    faults += ['%s: %s' % (path, line) for line in re.findall(r'^logic=.*\b(?:axioms|foreign)=.*$', log, re.M)]
+    # rt names three functions of a library, and counts them all
+    for name, said in re.findall(r'^== (\w+)\n((?:(?!== |rt: \w+ (?:proved|NOT PROVED)).*\n)*)', log, re.M):
+        may = AXIOMS.get(name, [])
+        named = [one.strip() for group in re.findall(r'^axioms \w+: (\w.*) \(', said, re.M) if '::' in group for one in group.split(',')]
+        counted = max([int(count) for count in re.findall(r'^logic=.* axioms=(\d+)', said, re.M)], default=0)
+        if counted != len(may) or set(named) - set(may) - {'...'} or re.search(r'^logic=.* foreign=', said, re.M):
+            faults.append('%s rests on %d axioms, among them %s, and may on %s' % (name, counted, named or 'none', may or 'none'))
 for fault in faults:
     print('trust.py: ' + fault)
 
@@ -77,6 +87,9 @@ rows = [
 ]
 made = ['| what | where | lines |', '|---|---|---|'] + ['| %s | %s | %s |' % row for row in rows] + ['']
 made += ['%d functions in %d crates are proved. No crate has an axiom, a hole or a foreign function of its own.' % (functions, len(crates()))]
+made += ['Axioms of the kit, contracts of C functions that nothing proves, on which a crate rests through `std`:', '', '| crate | axioms |', '|---|---|']
+made += ['| `%s` | %d: %s |' % (name, len(names), ', '.join('`%s`' % a for a in sorted(names))) for name, names in sorted(AXIOMS.items())]
+made += ['| every other crate | none |']
 text = '\n'.join([BEGIN, ''] + made + ['', END])
 page = read(PAGE)
 start, end = page.index(BEGIN), page.index(END) + len(END)
