@@ -4,7 +4,8 @@
 //
 // Thin: the crate `replay_line` takes each line, `text_reading` its characters, and `text_found` says what is
 // found. Input and output go by pages of 64 KiB, so that memory does not grow with the list. An error is
-// always the reader's or the writer's, and ends the session: the tables are then what the text before it made.
+// always the reader's or the writer's, and ends the session: the tables are then what the text before it
+// made.
 #![tactic(auto)]
 
 ghost use Rattle.std.specs.Prelude.{◌≡◌, IfOk, OnErr, OnOk};
