@@ -35,7 +35,7 @@ struct Turn {
 
 // The lines that end in these bytes are taken. A page that is full is written out on the way. An error comes
 // after the end of a line, which is taken.
-#[tactic(auto, using(replay_line::proofs::Through::broke_off, replay_line::proofs::Through::line_open, replay_line::proofs::Through::text_over, replay_line::proofs::Through::went_on))]
+#[tactic(auto, using(replay_line::proofs::Through::text_over))]
 fn take_chunk<W: Write>(
     outputs: &mut [Output],
     stations: &mut [Station],
@@ -113,7 +113,7 @@ fn take_some<R: Read, W: Write>(
 
 // All of it. A proved loop has to end, and nothing says that the input does: the turns are counted up to a
 // number that no run comes to.
-#[tactic(auto, using(crate::proofs::Reaching::reached_then, replay_line::proofs::Parts::went_is, replay_line::proofs::Parts::went_none, replay_line::proofs::Parts::went_then))]
+#[tactic(auto, using(replay_line::proofs::Parts::went_none, replay_line::proofs::Parts::went_then))]
 fn take_all<R: Read, W: Write>(
     outputs: &mut [Output],
     stations: &mut [Station],

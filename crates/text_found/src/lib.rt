@@ -53,7 +53,6 @@ pub fn with_room<W: Write>(out: &mut W, page: &[u8], mark: usize) -> io::Result<
 // ---- what is found
 
 // An output: its block of lines, or its line of the report.
-#[tactic(auto, using(text_printing::proofs::Choices::choices), unfolding(crate::specs::Found::found_output))]
 fn put_output(page: &mut [u8], at: usize, report: bool, i: u64, time: u64, o: Output) -> usize
     ensures { Wrote page.old at (found_output report i time o) page.new result }
 {
@@ -65,7 +64,6 @@ fn put_output(page: &mut [u8], at: usize, report: bool, i: u64, time: u64, o: Ou
 }
 
 // The line `--`, and the report's head.
-#[tactic(auto, using(text_printing::proofs::Choices::choices, text_printing::proofs::Pages::wrote_then), unfolding(crate::specs::Found::found_head))]
 fn put_head(page: &mut [u8], at: usize, report: bool, time: u64) -> usize
     ensures { Wrote page.old at (found_head report time) page.new result }
 {
@@ -79,7 +77,7 @@ fn put_head(page: &mut [u8], at: usize, report: bool, time: u64) -> usize
 
 // Every output of the panel, on as many pages as it takes: the last page, and its mark. An error leaves on
 // the page what some of the outputs, from the first on, put there.
-#[tactic(auto, using(crate::proofs::Sheets::found_begun, crate::proofs::Sheets::found_more, crate::proofs::Sheets::found_over))]
+#[tactic(auto, using(crate::proofs::Sheets::found_over))]
 pub fn put_found<W: Write>(
     outputs: &[Output],
     n: usize,

@@ -1,4 +1,4 @@
-use Rattle.std.proofs.Common.{◌≡◌, refl}
+use Rattle.std.proofs.Common.{refl}
 use borrow.Author.Tests.{not-true, not-false}
 use Rattle.lighting_panel.specs.Paper.Panel.{panel_of}
 use Rattle.replay_line.specs.Taking.{through}

@@ -1,4 +1,4 @@
-use Rattle.std.proofs.Common.{◌≡◌, ◌≤◌, ◌<◌, ◌∙◌, arith, min, length, take}
+use Rattle.std.proofs.Common.{◌<◌, min, length, take}
 use Rattle.text_found.proofs.Sheets.{wrote_sheet, found_begun, found_more}
 use Rattle.text_found.proofs.Partly.{partly_begun, partly_more}
 use Rattle.text_found.proofs.put_found.Goals as goal
