@@ -10,7 +10,8 @@ import os
 import re
 import sys
 
-# the contracts of the kit's C functions that a program's input and output rest on, through `std`, and no others
+# the contracts of the kit's C functions that a program's input and output rest on, through `std`, and no
+# others
 IO = ['libc::read', 'libc::write', 'os::c::__xpg_strerror_r', 'os::c::rattle_errno']
 AXIOMS = {'replay': IO + ['os::c::rattle_arg', 'os::c::rattle_set_errno'], 'bench_figures': IO, 'lent_tables': IO}
 PAGE = 'docs/TRUST.md'
