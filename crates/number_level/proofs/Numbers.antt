@@ -1,21 +1,11 @@
 -- Patterns and REALs by the tests that find those that are no number.
-use mathlib.Core.Path.{◌≡◌, refl, sym, ◌∙◌, subst}
+use mathlib.Core.Path.{◌≡◌, sym, ◌∙◌, subst}
 use mathlib.Core.Bool.{Bool, true, false, not}
-use Prim.Native.Nat.{ℕ, ◌*◌}
+use Prim.Native.Nat.{ℕ}
 use lib.Dec.{T}
-use lib.Ieee.{Float, nan, inf, fin, binary32, up, down, eq, ne, nan_bits, is_nan, of_bits}
+use lib.Ieee.{Float, nan, binary32, nan_bits, is_nan, of_bits}
 use lib.Ieee.Bits.{nan_bits_is}
-use borrow.Author.Tests.{eq-eqb}
 use Rattle.lighting_outputs.proofs.Patterns.{only_nan}
-
--- only a NaN differs from itself
-pub differs : (x : Float) → ne x x ≡ is_nan x
-unfolding ne eq is_nan
-differs nan = refl
-differs (inf true) = refl
-differs (inf false) = refl
-differs (fin true m e) = rw (eq-eqb (m * up e * down e) (m * up e * down e) refl)
-differs (fin false m e) = rw (eq-eqb (m * up e * down e) (m * up e * down e) refl)
 
 -- a call's answer r to a test t that failed
 pub failed : {r t : Bool} → r ≡ t → r ≡ false → T (not t)

@@ -114,3 +114,12 @@ negative (fin true m e) h k = rw (ne_eqb (m * up e) 0 (λ z. true≢false (sym (
 negative (fin false m e) h k =
     let q = ltb-false (0 * down e) (m * up e * 1) k in
     absurd (true≢false (sym (is_nil false m e (omega arith)) ∙ h))
+
+pub no_limit : (x : Float) → eq x nil ≡ false → lt nil x ≡ false → limit_of x ≡ OutOfRange
+unfolding limit_of lt
+no_limit nan h k = refl
+no_limit (inf s) h k = refl
+no_limit (fin true m e) h k = refl
+no_limit (fin false m e) h k =
+    let q = ltb-false (0 * down e) (m * up e * 1) k in
+    absurd (true≢false (sym (is_nil false m e (omega arith)) ∙ h))

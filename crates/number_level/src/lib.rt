@@ -2,12 +2,15 @@
 // of its reach.
 #![tactic(auto)]
 
-ghost use Rattle.std.specs.Prelude.{◌≡◌, ◌≤◌, ◌<◌, ◌^◌, min};
+ghost use Rattle.std.specs.Prelude.{◌≡◌, ◌≤◌, ◌<◌, ◌^◌};
 ghost use Rattle.std.specs.Float.{binary32};
-ghost use Rattle.std.specs.Float.Ieee.{nan_bits, is_nan};
+ghost use Rattle.std.specs.Float.Ieee.{nan_bits};
 ghost use Rattle.lighting_levels.specs.Paper.Level.{greatest_level, least_amount, real, bits, nearest_to, amount_of, limit_of, level_of, in_range, units_or, amount_units, level_units, real_of, read_out};
 
 use lighting_levels::{GREATEST_LEVEL, LEAST_LEVEL, Level};
+
+// The least rate and the least step, 0.125 percent, in units.
+const LEAST_AMOUNT: u32 = LEAST_LEVEL / 8;
 
 // ---- patterns
 
@@ -24,17 +27,10 @@ pub fn real_from(pattern: u32) -> f32
     ensures { result ≡ real pattern }
 {
     if nan_bits(pattern) {
-        return 0.0 / 0.0;
+        f32::NAN
+    } else {
+        f32::from_bits(pattern)
     }
-    f32::from_bits(pattern)
-}
-
-// Only a NaN differs from itself.
-#[tactic(auto, using(crate::proofs::Numbers::differs))]
-fn is_nan(x: f32) -> bool
-    ensures { result ≡ is_nan x }
-{
-    x != x
 }
 
 // A REAL's pattern. No record holds a NaN, for which one pattern is fixed here, since `f32::to_bits` is not
@@ -43,17 +39,13 @@ fn is_nan(x: f32) -> bool
 pub fn bits_of(x: f32) -> u32
     ensures { result ≡ bits x }
 {
-    if is_nan(x) {
-        return 0x7FC0_0000;
-    }
-    f32::to_bits(x)
+    if x.is_nan() { 0x7FC0_0000 } else { x.to_bits() }
 }
 
 // ---- from a REAL to units
 
 // The rounding: the whole number nearest to n / 1,024, a half going to the even one. What is added carries
 // all that is more than a half to the next number, and a half only from an odd one.
-#[tactic(auto, using(lighting_levels::proofs::Rounding::by_cases))]
 fn rounded(n: u64) -> u64
     requires { n < 2 ^ 34 }
     ensures { result ≡ nearest_to n 1024 }
@@ -62,63 +54,54 @@ fn rounded(n: u64) -> u64
 }
 
 // A rate or a step: from 0.125 to 100.
-#[tactic(auto, using(crate::proofs::Scaled::cast, crate::proofs::Scaled::few_units, crate::proofs::Scaled::scaled, crate::proofs::Tested::too_high_lem, crate::proofs::Tested::too_low_lem))]
 pub fn amount_of_real(x: f32) -> Level
     ensures { result ≡ amount_of x }
 {
-    if x >= 0.125 {
-        if x <= 100.0 {
-            // x * 2^26 is a whole number, since a REAL has 24 digits, and 1,024 of it are a unit.
-            let n = ((x as f64) * 67108864.0) as u64;
-            return Level::Units(rounded(n) as u32);
-        }
+    if x >= 0.125 && x <= 100.0 {
+        // x * 2^26 is a whole number, since a REAL has 24 digits, and 1,024 of it are a unit.
+        let n = (f64::from(x) * 67_108_864.0) as u64;
+        Level::Units(rounded(n) as u32)
+    } else {
+        Level::OutOfRange
     }
-    Level::OutOfRange
 }
 
 // A Min or a Max: from 1 to 100.
-#[tactic(auto, using(crate::proofs::Tested::from_one, crate::proofs::Tested::under_one))]
 fn limit_of_real(x: f32) -> Level
     ensures { result ≡ limit_of x }
 {
     if x < 1.0 {
-        return Level::OutOfRange;
+        Level::OutOfRange
+    } else {
+        amount_of_real(x)
     }
-    amount_of_real(x)
 }
 
 // A level: 0 and minus zero are 0; above 0 and below 1 it is 65,536; from 1 to 100 the nearest unit.
-#[tactic(auto, using(crate::proofs::Tested::at_zero, crate::proofs::Tested::large, crate::proofs::Tested::negative, crate::proofs::Tested::small))]
 pub fn level_of_real(x: f32) -> Level
     ensures { result ≡ level_of x }
 {
     if x == 0.0 {
-        return Level::Units(0);
+        Level::Units(0)
+    } else if x > 0.0 && x < 1.0 {
+        Level::Units(LEAST_LEVEL)
+    } else {
+        limit_of_real(x)
     }
-    if x > 0.0 {
-        if x < 1.0 {
-            return Level::Units(LEAST_LEVEL);
-        }
-        return limit_of_real(x);
-    }
-    Level::OutOfRange
 }
 
-#[tactic(auto, unfolding(lighting_levels::specs::Paper::Level::amount_of))]
 pub fn amount_of(pattern: u32) -> Level
     ensures { result ≡ amount_of (real pattern) }
 {
     amount_of_real(real_from(pattern))
 }
 
-#[tactic(auto, unfolding(lighting_levels::specs::Paper::Level::limit_of))]
 pub fn limit_of(pattern: u32) -> Level
     ensures { result ≡ limit_of (real pattern) }
 {
     limit_of_real(real_from(pattern))
 }
 
-#[tactic(auto, unfolding(lighting_levels::specs::Paper::Level::level_of))]
 pub fn level_of(pattern: u32) -> Level
     ensures { result ≡ level_of (real pattern) }
 {
@@ -154,7 +137,7 @@ pub fn amount_units(x: f32) -> u32
     ensures value { result ≡ amount_units x }
     ensures lower_bound { (least_amount ≤ result) × (result ≤ greatest_level) }
 {
-    units_or(8192, amount_of_real(x))
+    units_or(LEAST_AMOUNT, amount_of_real(x))
 }
 
 // A command's level that is kept as a REAL.
@@ -168,19 +151,7 @@ pub fn level_units(x: f32) -> u32
 
 // ---- from a level to a REAL
 
-// No level is above 6,553,600.
-fn capped(level: u32) -> u32
-    ensures { result ≡ min level greatest_level }
-{
-    if level < GREATEST_LEVEL {
-        level
-    } else {
-        GREATEST_LEVEL
-    }
-}
-
 // One division by a power of two, which is exact.
-#[tactic(auto, unfolding(lighting_levels::specs::Paper::Level::real_of))]
 fn real_of(level: u32) -> f32
     requires { level ≤ greatest_level }
     ensures { result ≡ real_of level }
@@ -188,10 +159,10 @@ fn real_of(level: u32) -> f32
     (level as f32) / 65536.0
 }
 
-// A level as it is read: the pattern of the REAL equal to it.
+// A level as it is read: the pattern of the REAL equal to it. No level is above 6,553,600.
 #[tactic(auto, unfolding(lighting_levels::specs::Paper::Level::read_out))]
 pub fn read_out(level: u32) -> u32
     ensures { result ≡ read_out level }
 {
-    bits_of(real_of(capped(level)))
+    bits_of(real_of(level.min(GREATEST_LEVEL)))
 }

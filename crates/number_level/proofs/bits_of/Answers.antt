@@ -5,4 +5,4 @@ use Rattle.number_level.proofs.bits_of.Goals as goal
 
 pub returns-then-is_nan : goal.returns-then-is_nan
 unfolding bits to_bits
-returns-then-is_nan c = rw (found c.args.x c.is_nan.ensures c.if-is_nan.true)
+returns-then-is_nan c = rw (found c.args.x c.is_nan.ensures.value c.if-is_nan.true)

@@ -7,6 +7,6 @@ pub returns-then-x : goal.returns-then-x
 unfolding of_bits
 returns-then-x c = sym (under_one c.args.x c.if-x.true)
 
-pub returns : goal.returns
+pub returns-else-x : goal.returns-else-x
 unfolding of_bits
-returns c = c.amount_of_real.ensures ∙ from_one c.args.x c.if-x.false
+returns-else-x c = c.amount_of_real.ensures ∙ from_one c.args.x c.if-x.false

@@ -2,11 +2,11 @@
 -- is level / 65,536.
 use mathlib.Core.Path.{◌≡◌}
 use mathlib.Core.Bool.{false}
-use Prim.Native.Nat.{ℕ, ◌*◌, ◌^◌, ◌≤◌}
+use Prim.Native.Nat.{ℕ, ◌*◌, ◌≤◌}
 use native.Mathlib.Nat.{le_trans}
 use native.Mathlib.Omega.{arith}
 use lib.IntN.{pos}
-use lib.Dec.{le→leb, lit<, lit≤}
+use lib.Dec.{lit<, lit≤}
 use lib.Ieee.{Float, nan, inf, fin, binary32, up, down, div, of_int, of_bits}
 use lib.Ieee.Exact.{HasValue}
 use lib.Ieee.Fits.{down_pos}
