@@ -8,7 +8,6 @@ ghost use Rattle.lighting_outputs.specs.Paper.Rules.{levels_sound, times_sound, 
 
 use lighting_outputs::{Activity, Output, Parameters, Property, SLOT_6, Settings, Slots};
 use number_ranges::rows::{fits, is_amount};
-use number_ranges::wide_index;
 
 // ---- settings
 
@@ -17,64 +16,36 @@ use number_ranges::wide_index;
 fn levels_sound(parameters: Parameters, c: Settings) -> bool
     ensures { result ≡ levels_sound parameters c }
 {
-    if fits(parameters, Property::RelinquishDefault, c.default) {
-        if fits(parameters, Property::MinValue, c.min) {
-            if fits(parameters, Property::MaxValue, c.max) {
-                c.min <= c.max
-            } else {
-                false
-            }
-        } else {
-            false
-        }
-    } else {
-        false
-    }
+    fits(parameters, Property::RelinquishDefault, c.default)
+        && fits(parameters, Property::MinValue, c.min)
+        && fits(parameters, Property::MaxValue, c.max)
+        && c.min <= c.max
 }
 
 #[tactic(auto, using(lighting_levels::proofs::Choosing::ifs), unfolding(lighting_outputs::specs::Paper::Rules::times_sound))]
 fn times_sound(parameters: Parameters, c: Settings) -> bool
     ensures { result ≡ times_sound parameters c }
 {
-    if fits(parameters, Property::FadeTime, c.fade) {
-        if fits(parameters, Property::BlinkTime, c.blink) {
-            fits(parameters, Property::BlinkWarnDelay, c.delay)
-        } else {
-            false
-        }
-    } else {
-        false
-    }
+    fits(parameters, Property::FadeTime, c.fade)
+        && fits(parameters, Property::BlinkTime, c.blink)
+        && fits(parameters, Property::BlinkWarnDelay, c.delay)
 }
 
 #[tactic(auto, using(lighting_levels::proofs::Choosing::ifs), unfolding(lighting_outputs::specs::Paper::Rules::reals_sound))]
 fn reals_sound(c: Settings) -> bool
     ensures { result ≡ reals_sound c }
 {
-    if is_amount(c.ramp) {
-        is_amount(c.step)
-    } else {
-        false
-    }
+    is_amount(c.ramp) && is_amount(c.step)
 }
 
 #[tactic(auto, using(lighting_levels::proofs::Choosing::ifs), unfolding(lighting_outputs::specs::Paper::Rules::settings_sound))]
 fn settings_sound(parameters: Parameters, c: Settings) -> bool
     ensures { result ≡ settings_sound parameters c }
 {
-    if levels_sound(parameters, c) {
-        if times_sound(parameters, c) {
-            if reals_sound(c) {
-                fits(parameters, Property::CommandPriority, c.slot as u32)
-            } else {
-                false
-            }
-        } else {
-            false
-        }
-    } else {
-        false
-    }
+    levels_sound(parameters, c)
+        && times_sound(parameters, c)
+        && reals_sound(c)
+        && fits(parameters, Property::CommandPriority, c.slot as u32)
 }
 
 // ---- slots
@@ -88,11 +59,11 @@ fn live_sound(s: Slots) -> bool
     let levels = s.levels;
     let mut left = s.live;
     while 0 < left {
-        let i = wide_index(u16::trailing_zeros(left));
+        let i = u16::trailing_zeros(left) as usize;
         if !number_ranges::is_level(levels[i]) {
             return false;
         }
-        left = left & (left - 1);
+        left &= left - 1;
     }
     true
 }
@@ -102,7 +73,7 @@ fn live_sound(s: Slots) -> bool
 fn slots_sound(s: Slots) -> bool
     ensures { result ≡ slots_sound s }
 {
-    if s.live == 0 { true } else { live_sound(s) }
+    s.live == 0 || live_sound(s)
 }
 
 // ---- what is under way
@@ -130,31 +101,13 @@ fn activity_sound(parameters: Parameters, t: u64, high: u32, s: Slots, v: u32, a
 pub fn is_sound(parameters: Parameters, t: u64, o: Output) -> bool
     ensures { result ≡ sound parameters t o }
 {
-    let c = o.settings;
-    let s = o.slots;
-    let a = o.activity;
-    let m = o.timer;
-    let relay = o.relay;
-    if settings_sound(parameters, c) {
-        let v = output_value::present_value(c, s);
-        if output_relay::relay_sound(v, relay) {
-            if o.burning <= t {
-                if output_activity_rules::timer_sound(t, m) {
-                    if activity_sound(parameters, t, c.max, s, v, a) {
-                        slots_sound(s)
-                    } else {
-                        false
-                    }
-                } else {
-                    false
-                }
-            } else {
-                false
-            }
-        } else {
-            false
-        }
-    } else {
-        false
+    if !settings_sound(parameters, o.settings) {
+        return false;
     }
+    let v = output_value::present_value(o.settings, o.slots);
+    output_relay::relay_sound(v, o.relay)
+        && o.burning <= t
+        && output_activity_rules::timer_sound(t, o.timer)
+        && activity_sound(parameters, t, o.settings.max, o.slots, v, o.activity)
+        && slots_sound(o.slots)
 }

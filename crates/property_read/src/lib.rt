@@ -28,7 +28,7 @@ fn slot_answer(s: Slots, i: u8) -> Answer
     ensures { result ≡ slot_answer s i }
 {
     if output_slots::is_live(s, i) {
-        level_answer(output_slots::level_at(0, s, i as u32))
+        level_answer(output_slots::level_at(0, s, u32::from(i)))
     } else {
         Answer::Absent
     }
@@ -50,14 +50,7 @@ fn unhidden_answer(tenant: bool, s: Slots, i: u8) -> Answer
 fn flag(b: bool) -> u32
     ensures { result ≡ flag b }
 {
-    if b { 1 } else { 0 }
-}
-
-// Lighting_Command_Priority is kept as its slot.
-fn priority(slot: u8) -> u32
-    ensures { result ≡ slot + 1 }
-{
-    slot as u32 + 1
+    u32::from(b)
 }
 
 // 'Elapsed_Active_Time reads floor(burning / 1,000), at most 4,294,967,295'.
@@ -65,12 +58,7 @@ fn priority(slot: u8) -> u32
 fn elapsed_active(burning: u64) -> u32
     ensures { result ≡ elapsed_active burning }
 {
-    let seconds = burning / 1000;
-    if seconds < 4_294_967_295 {
-        seconds as u32
-    } else {
-        4_294_967_295
-    }
+    u32::try_from(burning / 1000).unwrap_or(u32::MAX)
 }
 
 #[tactic(auto, unfolding(lighting_outputs::specs::Paper::Properties::real_answer))]
@@ -118,48 +106,41 @@ fn last_duration(d: Duration) -> Answer
 pub fn read_property(tenant: bool, t: u64, o: Output, p: Property) -> Answer
     ensures { result ≡ read_property tenant t o p }
 {
-    let settings = o.settings;
-    let slots = o.slots;
-    let activity = o.activity;
-    let relay = o.relay;
     let last = o.last;
-    let operation = last.operation;
-    let duration = last.duration;
-    let fields = command_operations::fields_of(operation);
-    let level = fields.level;
-    let rate = fields.rate;
-    let step = fields.step;
-    let fade = fields.fade;
+    let fields = command_operations::fields_of(last.operation);
     match p {
-        Property::RelinquishDefault => level_answer(settings.default),
-        Property::FadeTime => Answer::Value(settings.fade),
-        Property::RampRate => real_answer(settings.ramp),
-        Property::StepIncrement => real_answer(settings.step),
-        Property::BlinkEnable => Answer::Value(flag(settings.enable)),
-        Property::BlinkTime => Answer::Value(settings.blink),
-        Property::BlinkWarnDelay => Answer::Value(settings.delay),
-        Property::MinValue => level_answer(settings.min),
-        Property::MaxValue => level_answer(settings.max),
-        Property::CommandPriority => Answer::Value(priority(settings.slot)),
+        Property::RelinquishDefault => level_answer(o.settings.default),
+        Property::FadeTime => Answer::Value(o.settings.fade),
+        Property::RampRate => real_answer(o.settings.ramp),
+        Property::StepIncrement => real_answer(o.settings.step),
+        Property::BlinkEnable => Answer::Value(flag(o.settings.enable)),
+        Property::BlinkTime => Answer::Value(o.settings.blink),
+        Property::BlinkWarnDelay => Answer::Value(o.settings.delay),
+        Property::MinValue => level_answer(o.settings.min),
+        Property::MaxValue => level_answer(o.settings.max),
+        // Lighting_Command_Priority is kept as its slot.
+        Property::CommandPriority => Answer::Value(u32::from(o.settings.slot) + 1),
         Property::ElapsedActiveTime => Answer::Value(elapsed_active(o.burning)),
         Property::PresentValue => shown_answer(
             tenant,
-            output_value::present_value(settings, slots),
+            output_value::present_value(o.settings, o.slots),
         ),
         Property::ProgressValue => shown_answer(tenant, output_value::progress_value(t, o)),
-        Property::InProcess => Answer::Value(output_value::in_process(activity)),
-        Property::LastOperation => Answer::Value(command_operations::operation_number(operation)),
-        Property::LastLevel => real_field_answer(level),
-        Property::LastRate => real_field_answer(rate),
-        Property::LastStep => real_field_answer(step),
-        Property::LastFadeTime => time_field_answer(fade),
-        Property::LastDuration => last_duration(duration),
-        Property::BinaryActiveValue => level_answer(relay.active),
-        Property::BinaryInactiveValue => level_answer(relay.inactive),
-        Property::Polarity => Answer::Value(flag(relay.reverse)),
-        Property::BinaryPresentValue => Answer::Value(flag(relay.binary)),
-        Property::RelayState => Answer::Value(flag(output_relay::relay_state(relay))),
-        Property::SlotValue(i) => unhidden_answer(tenant, slots, i),
+        Property::InProcess => Answer::Value(output_value::in_process(o.activity)),
+        Property::LastOperation => Answer::Value(command_operations::operation_number(
+            last.operation,
+        )),
+        Property::LastLevel => real_field_answer(fields.level),
+        Property::LastRate => real_field_answer(fields.rate),
+        Property::LastStep => real_field_answer(fields.step),
+        Property::LastFadeTime => time_field_answer(fields.fade),
+        Property::LastDuration => last_duration(last.duration),
+        Property::BinaryActiveValue => level_answer(o.relay.active),
+        Property::BinaryInactiveValue => level_answer(o.relay.inactive),
+        Property::Polarity => Answer::Value(flag(o.relay.reverse)),
+        Property::BinaryPresentValue => Answer::Value(flag(o.relay.binary)),
+        Property::RelayState => Answer::Value(flag(output_relay::relay_state(o.relay))),
+        Property::SlotValue(i) => unhidden_answer(tenant, o.slots, i),
         Property::Unknown => Answer::Refused(9),
     }
 }

@@ -79,7 +79,7 @@ pub fn number_of(p: Property) -> u32
         Property::Polarity => 0x19,
         Property::BinaryPresentValue => 0x1A,
         Property::RelayState => 0x1B,
-        Property::SlotValue(i) => 0x21 + i as u32,
+        Property::SlotValue(i) => 0x21 + u32::from(i),
     }
 }
 

@@ -8,59 +8,30 @@ ghost use Rattle.lighting_outputs.specs.Paper.Properties.{same, settings_with, r
 use super::is_same;
 use lighting_outputs::{Activity, Output, Property, Relay, Settings};
 
-// ---- a field of the property `field`: the new value if this is the one that is written, else as it was
-
+// A field of the property `field`: the new value if this is the one that is written, else as it was.
 #[tactic(auto, using(lighting_levels::proofs::Choosing::ifs))]
-fn number_with(field: Property, n: Property, v: u32, was: u32) -> u32
-    ensures { result ≡ (when same field n then v else was) }
+fn field_with<T: Copy>(field: Property, n: Property, new: T, was: T) -> T
+    ensures { result ≡ (when same field n then new else was) }
 {
-    if is_same(field, n) { v } else { was }
-}
-
-#[tactic(auto, using(lighting_levels::proofs::Choosing::ifs))]
-fn real_with(field: Property, n: Property, v: u32, was: f32) -> f32
-    ensures { result ≡ (when same field n then real v else was) }
-{
-    if is_same(field, n) {
-        number_level::real_from(v)
-    } else {
-        was
-    }
-}
-
-#[tactic(auto, using(lighting_levels::proofs::Choosing::ifs))]
-fn flag_with(field: Property, n: Property, v: u32, was: bool) -> bool
-    ensures { result ≡ (when same field n then eqb v 1 else was) }
-{
-    if is_same(field, n) { v == 1 } else { was }
-}
-
-#[tactic(auto, using(lighting_levels::proofs::Choosing::ifs))]
-fn slot_with(field: Property, n: Property, v: u32, was: u8) -> u8
-    ensures { result ≡ (when same field n then v % 256 else was) }
-{
-    if is_same(field, n) {
-        (v % 256) as u8
-    } else {
-        was
-    }
+    if is_same(field, n) { new } else { was }
 }
 
 #[tactic(auto, unfolding(lighting_outputs::specs::Paper::Properties::settings_with))]
 pub fn settings_with(c: Settings, n: Property, v: u32) -> Settings
     ensures { result ≡ settings_with c n v }
 {
+    let amount = number_level::real_from(v);
     Settings {
-        default: number_with(Property::RelinquishDefault, n, v, c.default),
-        fade: number_with(Property::FadeTime, n, v, c.fade),
-        ramp: real_with(Property::RampRate, n, v, c.ramp),
-        step: real_with(Property::StepIncrement, n, v, c.step),
-        enable: flag_with(Property::BlinkEnable, n, v, c.enable),
-        blink: number_with(Property::BlinkTime, n, v, c.blink),
-        delay: number_with(Property::BlinkWarnDelay, n, v, c.delay),
-        min: number_with(Property::MinValue, n, v, c.min),
-        max: number_with(Property::MaxValue, n, v, c.max),
-        slot: slot_with(Property::CommandPriority, n, v, c.slot),
+        default: field_with(Property::RelinquishDefault, n, v, c.default),
+        fade: field_with(Property::FadeTime, n, v, c.fade),
+        ramp: field_with(Property::RampRate, n, amount, c.ramp),
+        step: field_with(Property::StepIncrement, n, amount, c.step),
+        enable: field_with(Property::BlinkEnable, n, v == 1, c.enable),
+        blink: field_with(Property::BlinkTime, n, v, c.blink),
+        delay: field_with(Property::BlinkWarnDelay, n, v, c.delay),
+        min: field_with(Property::MinValue, n, v, c.min),
+        max: field_with(Property::MaxValue, n, v, c.max),
+        slot: field_with(Property::CommandPriority, n, (v % 256) as u8, c.slot),
     }
 }
 
@@ -70,10 +41,10 @@ pub fn relay_with(relay: Relay, n: Property, v: u32) -> Relay
     ensures { result ≡ relay_with relay n v }
 {
     Relay {
-        active: number_with(Property::BinaryActiveValue, n, v, relay.active),
-        inactive: number_with(Property::BinaryInactiveValue, n, v, relay.inactive),
-        reverse: flag_with(Property::Polarity, n, v, relay.reverse),
-        binary: relay.binary,
+        active: field_with(Property::BinaryActiveValue, n, v, relay.active),
+        inactive: field_with(Property::BinaryInactiveValue, n, v, relay.inactive),
+        reverse: field_with(Property::Polarity, n, v == 1, relay.reverse),
+        ..relay
     }
 }
 
@@ -83,9 +54,8 @@ pub fn end_movement(a: Activity) -> Activity
     ensures { result ≡ end_movement a }
 {
     match a {
-        Activity::Still => a,
         Activity::Moving(_) => Activity::Still,
-        Activity::Warned(_) => a,
+        Activity::Still | Activity::Warned(_) => a,
     }
 }
 
@@ -94,9 +64,7 @@ pub fn end_movement(a: Activity) -> Activity
 fn activity_with(a: Activity, n: Property) -> Activity
     ensures { result ≡ activity_with a n }
 {
-    if is_same(Property::MinValue, n) {
-        end_movement(a)
-    } else if is_same(Property::MaxValue, n) {
+    if is_same(Property::MinValue, n) || is_same(Property::MaxValue, n) {
         end_movement(a)
     } else {
         a
@@ -108,11 +76,7 @@ fn activity_with(a: Activity, n: Property) -> Activity
 fn burning_with(b: u64, n: Property) -> u64
     ensures { result ≡ burning_with b n }
 {
-    if is_same(Property::ElapsedActiveTime, n) {
-        0
-    } else {
-        b
-    }
+    field_with(Property::ElapsedActiveTime, n, 0, b)
 }
 
 // Slots, duration and last command stay.
@@ -120,14 +84,11 @@ fn burning_with(b: u64, n: Property) -> u64
 pub fn change(o: Output, n: Property, v: u32) -> Output
     ensures { result ≡ changed o n v }
 {
-    let settings = o.settings;
-    let relay = o.relay;
-    let activity = o.activity;
     output_record::with_settings(
         o,
-        settings_with(settings, n, v),
-        relay_with(relay, n, v),
-        activity_with(activity, n),
+        settings_with(o.settings, n, v),
+        relay_with(o.relay, n, v),
+        activity_with(o.activity, n),
         burning_with(o.burning, n),
     )
 }
