@@ -3,7 +3,7 @@
 // that it finds, with any warning ended; `g` is a target, in units.
 #![tactic(auto)]
 
-ghost use Rattle.std.specs.Prelude.{◌≡◌, ◌<◌, ◌^◌, max};
+ghost use Rattle.std.specs.Prelude.{◌≡◌, ◌<◌, ◌^◌};
 ghost use Rattle.lighting_outputs.specs.Paper.Commands.{without_warning, activity_without_warning, jumped, went_to, stepped_up, stepped_down, raised, halted, stopped, relinquished, effect, commanded_from, commanded};
 
 use lighting_outputs::{Activity, Command, Effect, Operation, Output, SLOT_6, Settings, Slots};
@@ -15,8 +15,7 @@ fn end_warning(s: Slots, a: Activity) -> Slots
     ensures { result ≡ without_warning s a }
 {
     match a {
-        Activity::Still => s,
-        Activity::Moving(_) => s,
+        Activity::Still | Activity::Moving(_) => s,
         Activity::Warned(_) => output_slots::empty(s, SLOT_6),
     }
 }
@@ -26,8 +25,7 @@ fn without_warning(a: Activity) -> Activity
     ensures { result ≡ activity_without_warning a }
 {
     match a {
-        Activity::Still => a,
-        Activity::Moving(_) => a,
+        Activity::Still | Activity::Moving(_) => a,
         Activity::Warned(_) => Activity::Still,
     }
 }
@@ -74,18 +72,12 @@ fn step_down(c: Settings, f: u32, s: Slots, a: Activity, x: f32) -> Effect
 
 // ---- STOP and RELINQUISH
 
-fn greater(x: u32, y: u32) -> u32
-    ensures { result ≡ max x y }
-{
-    if x < y { y } else { x }
-}
-
 // 'the reached level, raised to Min if above zero'.
 #[tactic(auto, using(lighting_levels::proofs::Choosing::ifs), unfolding(lighting_outputs::specs::Paper::Commands::raised))]
 fn raise(c: Settings, v: u32) -> u32
     ensures { result ≡ raised c v }
 {
-    if v == 0 { 0 } else { greater(c.min, v) }
+    if v == 0 { 0 } else { v.max(c.min) }
 }
 
 #[tactic(auto, unfolding(lighting_outputs::specs::Paper::Commands::halted))]
@@ -104,19 +96,8 @@ fn stop(c: Settings, f: u32, s: Slots, a: Activity) -> Effect
     ensures { result ≡ stopped c f s a }
 {
     match a {
-        Activity::Still => Effect {
-            slots: s,
-            activity: a,
-        },
-        Activity::Moving(m) => if m.owner == c.slot {
-            halt(c, f, s)
-        } else {
-            Effect {
-                slots: s,
-                activity: a,
-            }
-        },
-        Activity::Warned(_) => Effect {
+        Activity::Moving(m) if m.owner == c.slot => halt(c, f, s),
+        Activity::Still | Activity::Moving(_) | Activity::Warned(_) => Effect {
             slots: s,
             activity: a,
         },
@@ -162,13 +143,21 @@ fn command_from(t: u64, o: Output, f: u32, k: Command) -> Output
     ensures { result ≡ commanded_from t o f k }
 {
     let c = o.settings;
-    let s = o.slots;
     let a = o.activity;
-    let m = o.timer;
-    let operation = k.operation;
-    let duration = k.duration;
-    let n = make_effect(t, c, f, end_warning(s, a), without_warning(a), operation);
-    output_record::with_command(o, n, command_durations::time(t, c.slot, m, duration), k)
+    let n = make_effect(
+        t,
+        c,
+        f,
+        end_warning(o.slots, a),
+        without_warning(a),
+        k.operation,
+    );
+    output_record::with_command(
+        o,
+        n,
+        command_durations::time(t, c.slot, o.timer, k.duration),
+        k,
+    )
 }
 
 // 'It starts from Progress_Value before it': not from Present_Value, at which a running movement only aims.

@@ -51,12 +51,8 @@ fn time_field_refusal(parameters: Parameters, x: TimeField) -> u8
     ensures { result ≡ time_field_refusal parameters x }
 {
     match x {
-        TimeField::Time(l) => if number_ranges::is_fade_time(parameters, l) {
-            0
-        } else {
-            12
-        },
-        TimeField::NoTime => 0,
+        TimeField::Time(l) if !number_ranges::is_fade_time(parameters, l) => 12,
+        TimeField::Time(_) | TimeField::NoTime => 0,
     }
 }
 
@@ -72,17 +68,13 @@ fn first_refusal(earlier: u8, later: u8) -> u8
 pub fn fields_refusal(parameters: Parameters, f: OperationFields) -> u8
     ensures { result ≡ fields_refusal parameters f }
 {
-    let level = f.level;
-    let rate = f.rate;
-    let step = f.step;
-    let fade = f.fade;
     first_refusal(
-        level_field_refusal(level),
+        level_field_refusal(f.level),
         first_refusal(
-            amount_field_refusal(rate),
+            amount_field_refusal(f.rate),
             first_refusal(
-                amount_field_refusal(step),
-                time_field_refusal(parameters, fade),
+                amount_field_refusal(f.step),
+                time_field_refusal(parameters, f.fade),
             ),
         ),
     )
@@ -90,21 +82,24 @@ pub fn fields_refusal(parameters: Parameters, f: OperationFields) -> u8
 
 // ---- the request
 
+fn commanded(operation: Operation, duration: Duration) -> Request
+    ensures { result ≡ Request.ToOutput (OutputRequest.Commands (record { operation = operation; duration = duration })) }
+{
+    Request::ToOutput(OutputRequest::Commands(Command {
+        operation,
+        duration,
+    }))
+}
+
 // An operation with a duration that is there: 0 cancels, 100 to the longest sets.
 #[tactic(auto, using(lighting_levels::proofs::Choosing::ifs), unfolding(lighting_outputs::specs::Paper::Requests::command_lasting))]
 fn command_lasting(parameters: Parameters, operation: Operation, d: u32) -> Request
     ensures { result ≡ command_lasting parameters operation d }
 {
     if d == 0 {
-        Request::ToOutput(OutputRequest::Commands(Command {
-            operation,
-            duration: Duration::Cancels,
-        }))
+        commanded(operation, Duration::Cancels)
     } else if number_ranges::is_duration(parameters, d) {
-        Request::ToOutput(OutputRequest::Commands(Command {
-            operation,
-            duration: Duration::Lasts(d),
-        }))
+        commanded(operation, Duration::Lasts(d))
     } else {
         Request::Refuse(12)
     }
@@ -120,10 +115,7 @@ fn command_with_duration(
 {
     match duration {
         TimeField::Time(d) => command_lasting(parameters, operation, d),
-        TimeField::NoTime => Request::ToOutput(OutputRequest::Commands(Command {
-            operation,
-            duration: Duration::Omitted,
-        })),
+        TimeField::NoTime => commanded(operation, Duration::Omitted),
     }
 }
 

@@ -26,16 +26,12 @@ fn call_of(parameters: Parameters, action: Action, b: &[u8]) -> Call
 fn called(parameters: Parameters, c: usize, call: Call) -> Frame
     ensures { result ≡ called parameters c call }
 {
-    if (call.station as u32) < parameters.stations {
-        if call.number == 0 {
-            Frame::Bad(4)
-        } else if (call.output as usize) < c {
-            Frame::Calls(call)
-        } else {
-            Frame::Bad(5)
-        }
-    } else {
+    if parameters.stations <= u32::from(call.station) || call.number == 0 {
         Frame::Bad(4)
+    } else if usize::from(call.output) < c {
+        Frame::Calls(call)
+    } else {
+        Frame::Bad(5)
     }
 }
 
@@ -53,16 +49,13 @@ fn parse_by(parameters: Parameters, c: usize, l: u32, kind: Kind, b: &[u8]) -> F
 {
     match kind {
         Kind::NoKind => Frame::Bad(2),
-        Kind::ClockKind => if b.len() == l as usize {
-            clock_of(b)
-        } else {
-            Frame::Bad(3)
-        },
-        Kind::CallKind(action) => if b.len() == l as usize {
-            called(parameters, c, call_of(parameters, action, b))
-        } else {
-            Frame::Bad(3)
-        },
+        Kind::ClockKind if b.len() == l as usize => clock_of(b),
+        Kind::CallKind(action) if b.len() == l as usize => called(
+            parameters,
+            c,
+            call_of(parameters, action, b),
+        ),
+        Kind::ClockKind | Kind::CallKind(_) => Frame::Bad(3),
     }
 }
 
@@ -71,6 +64,5 @@ pub fn parse(parameters: Parameters, c: usize, b: &[u8]) -> Frame
     ensures { result ≡ parse parameters c b.now }
 {
     let row = frame_kinds::kind_row(frame_field::byte_at(b, 0));
-    let kind = row.kind;
-    parse_by(parameters, c, row.length, kind, b)
+    parse_by(parameters, c, row.length, row.kind, b)
 }

@@ -9,9 +9,13 @@ ghost use Rattle.lighting_outputs.specs.Paper.Properties.{property_of, change_of
 ghost use Rattle.lighting_outputs.specs.Paper.Requests.{write_level, write_of, empty_of};
 ghost use Rattle.lighting_frames.specs.Paper.Frames.{request_of};
 
+use command_parse::{command_request, tagged_request};
+use frame_field::{byte_at, from_on, word32_at};
 use lighting_frames::Action;
 use lighting_levels::Level;
 use lighting_outputs::{Operation, OutputRequest, Parameters, Request};
+use property_write::property_of;
+use property_write::values::slot_of;
 
 // ---- kinds 02 to 05
 
@@ -29,11 +33,8 @@ fn write_level(i: u8, v: Level) -> Request
 fn write_of(n: u8, x: u32) -> Request
     ensures { result ≡ write_of n x }
 {
-    if number_ranges::is_priority(n as u32) {
-        write_level(
-            property_write::values::slot_of(n as u32),
-            number_level::level_of(x),
-        )
+    if number_ranges::is_priority(u32::from(n)) {
+        write_level(slot_of(u32::from(n)), number_level::level_of(x))
     } else {
         Request::Refuse(10)
     }
@@ -43,9 +44,9 @@ fn write_of(n: u8, x: u32) -> Request
 fn empty_of(p: u8) -> Request
     ensures { result ≡ empty_of p }
 {
-    if number_ranges::is_priority(p as u32) {
+    if number_ranges::is_priority(u32::from(p)) {
         Request::ToOutput(OutputRequest::Empty {
-            slot: property_write::values::slot_of(p as u32),
+            slot: slot_of(u32::from(p)),
         })
     } else {
         Request::Refuse(10)
@@ -57,13 +58,13 @@ fn empty_of(p: u8) -> Request
 fn change_of(parameters: Parameters, n: u8, x: u32) -> Request
     ensures { result ≡ change_of parameters (property_of n) x }
 {
-    property_write::change_of(parameters, property_write::property_of(n), x)
+    property_write::change_of(parameters, property_of(n), x)
 }
 
 fn real_at(b: &[u8], at: usize) -> f32
     ensures { result ≡ real (big_endian 4 b.now at) }
 {
-    number_level::real_from(frame_field::word32_at(b, at))
+    number_level::real_from(word32_at(b, at))
 }
 
 #[tactic(auto, unfolding(lighting_frames::specs::Paper::Frames::request_of))]
@@ -71,84 +72,58 @@ pub fn request_of(parameters: Parameters, action: Action, b: &[u8]) -> Request
     ensures { result ≡ request_of parameters action b.now }
 {
     match action {
-        Action::WritesLevel => write_of(frame_field::byte_at(b, 13), frame_field::word32_at(b, 14)),
-        Action::EmptiesSlot => empty_of(frame_field::byte_at(b, 13)),
-        Action::WritesProperty => change_of(
+        Action::WritesLevel => write_of(byte_at(b, 13), word32_at(b, 14)),
+        Action::EmptiesSlot => empty_of(byte_at(b, 13)),
+        Action::WritesProperty => change_of(parameters, byte_at(b, 13), word32_at(b, 14)),
+        Action::ReadsProperty => Request::ToOutput(OutputRequest::Read(property_of(byte_at(
+            b, 13,
+        )))),
+        Action::Stops => command_request(parameters, Operation::Stop, word32_at(b, 13)),
+        Action::FadesTo => command_request(
             parameters,
-            frame_field::byte_at(b, 13),
-            frame_field::word32_at(b, 14),
+            Operation::FadeTo(real_at(b, 13)),
+            word32_at(b, 17),
         ),
-        Action::ReadsProperty => Request::ToOutput(OutputRequest::Read(property_write::property_of(
-            frame_field::byte_at(b, 13),
-        ))),
-        Action::Stops => command_parse::command_request(
+        Action::FadesToOver => command_request(
             parameters,
-            Operation::Stop,
-            frame_field::word32_at(b, 13),
+            Operation::FadeToOver(real_at(b, 13), word32_at(b, 17)),
+            word32_at(b, 21),
         ),
-        Action::FadesTo => {
-            command_parse::command_request(
-                parameters,
-                Operation::FadeTo(real_at(b, 13)),
-                frame_field::word32_at(b, 17),
-            )
-        }
-        Action::FadesToOver => command_parse::command_request(
+        Action::RampsTo => command_request(
             parameters,
-            Operation::FadeToOver(real_at(b, 13), frame_field::word32_at(b, 17)),
-            frame_field::word32_at(b, 21),
+            Operation::RampTo(real_at(b, 13)),
+            word32_at(b, 17),
         ),
-        Action::RampsTo => {
-            command_parse::command_request(
-                parameters,
-                Operation::RampTo(real_at(b, 13)),
-                frame_field::word32_at(b, 17),
-            )
-        }
-        Action::RampsToAtRate => command_parse::command_request(
+        Action::RampsToAtRate => command_request(
             parameters,
             Operation::RampToAtRate(real_at(b, 13), real_at(b, 17)),
-            frame_field::word32_at(b, 21),
+            word32_at(b, 21),
         ),
-        Action::StepsUp => command_parse::command_request(
+        Action::StepsUp => command_request(parameters, Operation::StepUp, word32_at(b, 13)),
+        Action::StepsDown => command_request(parameters, Operation::StepDown, word32_at(b, 13)),
+        Action::StepsUpBy => command_request(
             parameters,
-            Operation::StepUp,
-            frame_field::word32_at(b, 13),
+            Operation::StepUpBy(real_at(b, 13)),
+            word32_at(b, 17),
         ),
-        Action::StepsDown => command_parse::command_request(
+        Action::StepsDownBy => command_request(
             parameters,
-            Operation::StepDown,
-            frame_field::word32_at(b, 13),
+            Operation::StepDownBy(real_at(b, 13)),
+            word32_at(b, 17),
         ),
-        Action::StepsUpBy => {
-            command_parse::command_request(
-                parameters,
-                Operation::StepUpBy(real_at(b, 13)),
-                frame_field::word32_at(b, 17),
-            )
-        }
-        Action::StepsDownBy => {
-            command_parse::command_request(
-                parameters,
-                Operation::StepDownBy(real_at(b, 13)),
-                frame_field::word32_at(b, 17),
-            )
-        }
-        Action::GoesTo => {
-            command_parse::command_request(
-                parameters,
-                Operation::Goto(real_at(b, 13)),
-                frame_field::word32_at(b, 17),
-            )
-        }
-        Action::Relinquishes => command_parse::command_request(
+        Action::GoesTo => command_request(
+            parameters,
+            Operation::Goto(real_at(b, 13)),
+            word32_at(b, 17),
+        ),
+        Action::Relinquishes => command_request(
             parameters,
             Operation::Relinquish,
-            frame_field::word32_at(b, 13),
+            word32_at(b, 13),
         ),
-        Action::CommandsTagged => command_parse::tagged_request(
+        Action::CommandsTagged => tagged_request(
             parameters,
-            tag_reading::read_body(frame_field::from_on(b, 13)),
+            tag_reading::read_body(from_on(b, 13)),
         ),
     }
 }

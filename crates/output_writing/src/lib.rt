@@ -18,9 +18,8 @@ fn end_movement_unless_above(i: u8, a: Activity) -> Activity
     ensures { result ≡ end_movement_unless_above i a }
 {
     match a {
-        Activity::Still => a,
-        Activity::Moving(m) => if m.owner < i { a } else { Activity::Still },
-        Activity::Warned(_) => a,
+        Activity::Moving(m) if i <= m.owner => Activity::Still,
+        Activity::Still | Activity::Moving(_) | Activity::Warned(_) => a,
     }
 }
 
@@ -28,12 +27,10 @@ fn end_movement_unless_above(i: u8, a: Activity) -> Activity
 fn store(o: Output, i: u8, v: u32) -> Output
     ensures { result ≡ stored o i v }
 {
-    let s = o.slots;
-    let a = o.activity;
     with_effect(
         o,
-        output_slots::fill(s, i, v),
-        end_movement_unless_above(i, a),
+        output_slots::fill(o.slots, i, v),
+        end_movement_unless_above(i, o.activity),
     )
 }
 
@@ -44,16 +41,14 @@ fn warn_by(t: u64, o: Output, x: u8, y: u32) -> Output
     requires { t < 2 ^ 48 }
     ensures { result ≡ warned_by t o x y }
 {
-    let c = o.settings;
-    let s = o.slots;
     with_effect(
         o,
         output_slots::fill(
-            output_slots::fill(s, x, 0),
+            output_slots::fill(o.slots, x, 0),
             SLOT_6,
-            output_warning::first_level(c, y),
+            output_warning::first_level(o.settings, y),
         ),
-        Activity::Warned(output_warning::warning_from(t, c, x, y)),
+        Activity::Warned(output_warning::warning_from(t, o.settings, x, y)),
     )
 }
 
@@ -63,9 +58,7 @@ fn warn(t: u64, o: Output, x: u8) -> Output
     requires { t < 2 ^ 48 }
     ensures { result ≡ warned t o x }
 {
-    let c = o.settings;
-    let s = o.slots;
-    warn_by(t, o, x, output_value::present_value(c, s))
+    warn_by(t, o, x, output_value::present_value(o.settings, o.slots))
 }
 
 // ---- during a warning
@@ -74,10 +67,9 @@ fn warn(t: u64, o: Output, x: u8) -> Output
 fn end_empty(o: Output, i: u8) -> Output
     ensures { result ≡ ended_empty o i }
 {
-    let s = o.slots;
     with_effect(
         o,
-        output_slots::empty(output_slots::empty(s, SLOT_6), i),
+        output_slots::empty(output_slots::empty(o.slots, SLOT_6), i),
         Activity::Still,
     )
 }
@@ -86,10 +78,9 @@ fn end_empty(o: Output, i: u8) -> Output
 fn end_store(o: Output, i: u8, v: u32) -> Output
     ensures { result ≡ ended_stored o i v }
 {
-    let s = o.slots;
     with_effect(
         o,
-        output_slots::fill(output_slots::empty(s, SLOT_6), i, v),
+        output_slots::fill(output_slots::empty(o.slots, SLOT_6), i, v),
         Activity::Still,
     )
 }
@@ -99,12 +90,8 @@ fn end_store(o: Output, i: u8, v: u32) -> Output
 fn write_warned(o: Output, i: u8, v: u32) -> Output
     ensures { result ≡ written_warned o i v }
 {
-    if v == 0 {
-        if SLOT_6 < i {
-            end_empty(o, i)
-        } else {
-            end_store(o, i, v)
-        }
+    if v == 0 && SLOT_6 < i {
+        end_empty(o, i)
     } else {
         end_store(o, i, v)
     }
@@ -117,9 +104,7 @@ fn write_zero(t: u64, o: Output, i: u8) -> Output
     requires { t < 2 ^ 48 }
     ensures { result ≡ written_zero t o i }
 {
-    let c = o.settings;
-    let s = o.slots;
-    if output_warning::does_warn(c, s, i) {
+    if output_warning::does_warn(o.settings, o.slots, i) {
         warn(t, o, i)
     } else {
         store(o, i, 0)
@@ -144,8 +129,7 @@ fn write_by(t: u64, o: Output, i: u8, v: u32, a: Activity) -> Output
     ensures { result ≡ written_by t o i v a }
 {
     match a {
-        Activity::Still => write_calm(t, o, i, v),
-        Activity::Moving(_) => write_calm(t, o, i, v),
+        Activity::Still | Activity::Moving(_) => write_calm(t, o, i, v),
         Activity::Warned(_) => write_warned(o, i, v),
     }
 }
@@ -155,8 +139,7 @@ pub fn write(t: u64, o: Output, i: u8, v: u32) -> Output
     requires { t < 2 ^ 48 }
     ensures { result ≡ written t o i v }
 {
-    let a = o.activity;
-    write_by(t, o, i, v, a)
+    write_by(t, o, i, v, o.activity)
 }
 
 // ---- kind 03
@@ -177,11 +160,9 @@ fn relinquish_activity(live: bool, i: u8, a: Activity) -> Activity
 pub fn relinquish_slot(o: Output, i: u8) -> Output
     ensures { result ≡ slot_relinquished o i }
 {
-    let s = o.slots;
-    let a = o.activity;
     with_effect(
         o,
-        output_slots::empty(s, i),
-        relinquish_activity(output_slots::is_live(s, i), i, a),
+        output_slots::empty(o.slots, i),
+        relinquish_activity(output_slots::is_live(o.slots, i), i, o.activity),
     )
 }

@@ -18,11 +18,7 @@ use lighting_outputs::Parameters;
 pub fn counts_sound(parameters: Parameters, outputs: usize, stations: usize) -> bool
     ensures { result ≡ counts_sound parameters outputs stations }
 {
-    if outputs == parameters.outputs as usize {
-        stations == parameters.stations as usize
-    } else {
-        false
-    }
+    outputs == parameters.outputs as usize && stations == parameters.stations as usize
 }
 
 // A frame that is kept is a call's.
@@ -30,11 +26,7 @@ pub fn counts_sound(parameters: Parameters, outputs: usize, stations: usize) -> 
 pub fn station_sound(k: Station) -> bool
     ensures { result ≡ station_sound k }
 {
-    if k.number == 0 {
-        return true;
-    }
-    let frame = k.frame;
-    frame_kinds::is_call(frame[0])
+    k.number == 0 || frame_kinds::is_call(k.frame[0])
 }
 
 // ---- a frame judged by its station's record
@@ -44,10 +36,8 @@ pub fn station_sound(k: Station) -> bool
 fn retransmission_or_conflict(k: Station, b: &[u8]) -> Verdict
     ensures { result ≡ retransmission_or_conflict (same_bytes b.now (restored k.frame)) k.answer }
 {
-    let answer = k.answer;
-    let frame = k.frame;
-    if station_frame::same_frame(b, frame) {
-        Verdict::Copied(answer)
+    if station_frame::same_frame(b, k.frame) {
+        Verdict::Copied(k.answer)
     } else {
         Verdict::TurnedDown(6)
     }
@@ -59,15 +49,14 @@ fn judge_by_number(at: u64, k: Station, b: &[u8], call: Call) -> Verdict
     ensures { result ≡ judged_by_number at k (same_bytes b.now (restored k.frame)) call }
 {
     if call.number == k.number {
-        return retransmission_or_conflict(k, b);
+        retransmission_or_conflict(k, b)
+    } else if call.number < k.number {
+        Verdict::TurnedDown(7)
+    } else if call.time < at {
+        Verdict::TurnedDown(8)
+    } else {
+        Verdict::Arrives(call)
     }
-    if call.number < k.number {
-        return Verdict::TurnedDown(7);
-    }
-    if call.time < at {
-        return Verdict::TurnedDown(8);
-    }
-    Verdict::Arrives(call)
 }
 
 #[tactic(auto, unfolding(lighting_panel::specs::Engine::Judging::station_of))]
@@ -75,8 +64,7 @@ pub fn station_of(f: Frame) -> u8
     ensures { result ≡ station_of f }
 {
     match f {
-        Frame::Bad(_) => 0,
-        Frame::Clock(_) => 0,
+        Frame::Bad(_) | Frame::Clock(_) => 0,
         Frame::Calls(call) => call.station,
     }
 }
@@ -88,11 +76,8 @@ pub fn judge_by_station(at: u64, k: Station, b: &[u8], f: Frame) -> Verdict
 {
     match f {
         Frame::Bad(r) => Verdict::TurnedDown(r),
-        Frame::Clock(t) => if t < at {
-            Verdict::TurnedDown(8)
-        } else {
-            Verdict::Clocked(t)
-        },
+        Frame::Clock(t) if t < at => Verdict::TurnedDown(8),
+        Frame::Clock(t) => Verdict::Clocked(t),
         Frame::Calls(call) => judge_by_number(at, k, b, call),
     }
 }

@@ -68,7 +68,7 @@ pub fn field_size(field: TagField) -> usize
     ensures { (result ≡ field_size field) × (result ≤ 256) }
 {
     match field {
-        TagField::Holds { count, value: _ } => 1 + count as usize,
+        TagField::Holds { count, .. } => 1 + usize::from(count),
         TagField::Missing => 0,
     }
 }
@@ -78,7 +78,7 @@ pub fn held_by(field: TagField) -> u32
     ensures { result ≡ held_by field }
 {
     match field {
-        TagField::Holds { count: _, value } => value,
+        TagField::Holds { value, .. } => value,
         TagField::Missing => 0,
     }
 }
@@ -91,19 +91,15 @@ pub fn tags_of(operation: Operation, duration: TimeField) -> TagFields
     ensures { result ≡ tags_of operation duration }
 {
     let own = command_operations::fields_of(operation);
-    let level = own.level;
-    let rate = own.rate;
-    let step = own.step;
-    let fade = own.fade;
     TagFields {
         operation: TagField::Holds {
             count: 1,
             value: command_operations::operation_number(operation),
         },
-        level: real_tag(level),
-        rate: real_tag(rate),
-        step: real_tag(step),
-        fade: whole_tag(fade),
+        level: real_tag(own.level),
+        rate: real_tag(own.rate),
+        step: real_tag(own.step),
+        fade: whole_tag(own.fade),
         duration: whole_tag(duration),
     }
 }
@@ -124,7 +120,5 @@ fn duration_field(duration: Duration) -> TimeField
 pub fn command_tags(k: Command) -> TagFields
     ensures { result ≡ command_tags k }
 {
-    let operation = k.operation;
-    let duration = k.duration;
-    tags_of(operation, duration_field(duration))
+    tags_of(k.operation, duration_field(k.duration))
 }

@@ -1,32 +1,35 @@
 -- The padding of a body, byte after byte, and the operation by its number.
-use mathlib.Core.Path.{◌≡◌, sym}
+use mathlib.Core.Path.{◌≡◌, refl, sym}
 use mathlib.Core.Bool.{Bool}
 use mathlib.Core.List.{List}
-use Prim.Native.Nat.{ℕ, suc, ◌+◌, ◌-◌, ◌≤◌}
+use Prim.Native.Nat.{ℕ, zero, suc, ◌+◌, ◌-◌, ◌≤◌}
 use native.Mathlib.Omega.{arith}
 use lib.Dec.{eqb}
 use lib.ListN.{get_or, get_or-eq_default}
-use Rattle.lighting_levels.specs.Paper.Choice.{all_from}
+use Rattle.std.specs.List.{list_all, range_with_len}
+use Rattle.lighting_levels.specs.Paper.Choice.{when◌then◌else◌, all_from}
 use Rattle.lighting_levels.specs.Paper.Field.{byte_at}
 use Rattle.lighting_levels.specs.Paper.Level.{real}
 use Rattle.lighting_frames.specs.Paper.Tags.{length_of, zero_beyond, held_by, operations, operation_of}
 use Rattle.lighting_outputs.specs.declared.Operation.{Operation}
 use Rattle.lighting_outputs.specs.declared.Operation.TheVariants.{Stop}
 use Rattle.lighting_frames.specs.declared.TagFields.{TagFields}
+use Rattle.lighting_levels.proofs.Split.{by_bool}
 
--- THE PADDING from a place on
+-- THE PADDING
 abbrev pub is_zero : List ℕ → ℕ → Bool
 is_zero body i = eqb (byte_at body i) 0
 
-unfoldable pub zero_from : List ℕ → ℕ → Bool
-zero_from body i = all_from (is_zero body) (18 - i) i
+listed : (t : ℕ → Bool) (n i : ℕ) → list_all t (range_with_len i n) ≡ all_from t n i
+unfolding all_from when◌then◌else◌
+listed t zero i = refl
+listed t (suc n) i = by_bool (t i) (λ e. rw e (listed t n (i + 1))) (λ e. rw e refl)
 
-pub beyond : (body : List ℕ) (i : ℕ) → i ≡ 1 + length_of body → zero_beyond body ≡ zero_from body i
-unfolding zero_beyond zero_from
-beyond body i e =
-    let n : 18 - (1 + length_of body) ≡ 17 - length_of body = omega arith in
-    let s : 1 + length_of body ≡ suc (length_of body) = omega arith in
-    rw (e, n, s)
+pub beyond : (body : List ℕ) → list_all (is_zero body) (range_with_len (1 + length_of body) (17 - length_of body)) ≡ zero_beyond body
+unfolding zero_beyond
+beyond body =
+    let s : suc (length_of body) ≡ 1 + length_of body = omega arith in
+    rw s (listed (is_zero body) (17 - length_of body) (1 + length_of body))
 
 -- THE OPERATION that has the number
 module _ (f : TagFields) where

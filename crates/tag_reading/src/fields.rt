@@ -28,12 +28,12 @@ fn field_in(number: u8, least: u8, most: u8, left: &[u8]) -> TagField
 {
     let tag = frame_field::byte_at(left, 0);
     if number_ranges::is_within(
-        tag_fields::context_tag(number, least) as u32,
-        tag_fields::context_tag(number, most) as u32,
-        tag as u32,
+        u32::from(tag_fields::context_tag(number, least)),
+        u32::from(tag_fields::context_tag(number, most)),
+        u32::from(tag),
     ) {
         let count = tag - tag_fields::context_tag(number, 0);
-        if (count as usize) < left.len() {
+        if usize::from(count) < left.len() {
             return TagField::Holds {
                 count,
                 value: number_behind(left, count),
@@ -80,7 +80,7 @@ fn fields_in(left: &[u8]) -> TagFields
 fn content(body: &[u8]) -> &[u8]
     ensures { result.now ≡ take (length_of body.now) (drop 1 body.now) }
 {
-    let length = number_ranges::index(frame_field::byte_at(body, 0));
+    let length = usize::from(frame_field::byte_at(body, 0));
     frame_field::first(frame_field::from_on(body, 1), length)
 }
 

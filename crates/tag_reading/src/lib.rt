@@ -17,34 +17,20 @@ use lighting_outputs::{Operation, TimeField};
 fn sizes_of(f: TagFields) -> usize
     ensures { result ≡ sizes (listed f) }
 {
-    let operation = f.operation;
-    let level = f.level;
-    let rate = f.rate;
-    let step = f.step;
-    let fade = f.fade;
-    let duration = f.duration;
-    tag_fields::field_size(operation)
-        + tag_fields::field_size(level)
-        + tag_fields::field_size(rate)
-        + tag_fields::field_size(step)
-        + tag_fields::field_size(fade)
-        + tag_fields::field_size(duration)
+    tag_fields::field_size(f.operation)
+        + tag_fields::field_size(f.level)
+        + tag_fields::field_size(f.rate)
+        + tag_fields::field_size(f.step)
+        + tag_fields::field_size(f.fade)
+        + tag_fields::field_size(f.duration)
 }
 
 // Each byte beyond the L.
-#[tactic(auto, using(crate::proofs::Judging::beyond, lighting_levels::proofs::Scan::scan_done, lighting_levels::proofs::Scan::scan_off, lighting_levels::proofs::Scan::scan_on), unfolding(crate::proofs::Judging::zero_from))]
 fn zero_beyond(body: &[u8]) -> bool
     ensures { result ≡ zero_beyond body.now }
 {
-    let mut i = 1 + number_ranges::index(frame_field::byte_at(body, 0));
-    while i <= MOST_TAGGED {
-        if frame_field::byte_at(body, i) == 0 {
-            i += 1;
-        } else {
-            return false;
-        }
-    }
-    true
+    let length = usize::from(frame_field::byte_at(body, 0));
+    (1 + length..1 + MOST_TAGGED).all(|i| frame_field::byte_at(body, i) == 0)
 }
 
 #[tactic(auto, unfolding(lighting_frames::specs::Paper::Tags::holds_at_most))]
@@ -52,7 +38,7 @@ fn holds_at_most(most: u32, field: TagField) -> bool
     ensures { result ≡ holds_at_most most field }
 {
     match field {
-        TagField::Holds { count: _, value } => value <= most,
+        TagField::Holds { value, .. } => value <= most,
         TagField::Missing => true,
     }
 }
@@ -65,20 +51,10 @@ fn well_tagged(body: &[u8], f: TagFields) -> bool
     ensures { result ≡ well_tagged body.now }
 {
     let length = frame_field::byte_at(body, 0);
-    let operation = f.operation;
-    if number_ranges::is_within(2, MOST_TAGGED as u32, length as u32) {
-        if sizes_of(f) == length as usize {
-            if zero_beyond(body) {
-                holds_at_most(10, operation)
-            } else {
-                false
-            }
-        } else {
-            false
-        }
-    } else {
-        false
-    }
+    number_ranges::is_within(2, MOST_TAGGED as u32, u32::from(length))
+        && sizes_of(f) == usize::from(length)
+        && zero_beyond(body)
+        && holds_at_most(10, f.operation)
 }
 
 // ---- the operation and the duration
@@ -94,22 +70,17 @@ fn real_in(field: TagField) -> f32
 fn operation_of(f: TagFields) -> Operation
     ensures { result ≡ operation_of f }
 {
-    let operation = f.operation;
-    let level = f.level;
-    let rate = f.rate;
-    let step = f.step;
-    let fade = f.fade;
-    match tag_fields::held_by(operation) {
+    match tag_fields::held_by(f.operation) {
         0 => Operation::Stop,
-        1 => Operation::FadeTo(real_in(level)),
-        2 => Operation::FadeToOver(real_in(level), tag_fields::held_by(fade)),
-        3 => Operation::RampTo(real_in(level)),
-        4 => Operation::RampToAtRate(real_in(level), real_in(rate)),
+        1 => Operation::FadeTo(real_in(f.level)),
+        2 => Operation::FadeToOver(real_in(f.level), tag_fields::held_by(f.fade)),
+        3 => Operation::RampTo(real_in(f.level)),
+        4 => Operation::RampToAtRate(real_in(f.level), real_in(f.rate)),
         5 => Operation::StepUp,
         6 => Operation::StepDown,
-        7 => Operation::StepUpBy(real_in(step)),
-        8 => Operation::StepDownBy(real_in(step)),
-        9 => Operation::Goto(real_in(level)),
+        7 => Operation::StepUpBy(real_in(f.step)),
+        8 => Operation::StepDownBy(real_in(f.step)),
+        9 => Operation::Goto(real_in(f.level)),
         10 => Operation::Relinquish,
         _ => Operation::Stop,
     }
@@ -120,7 +91,7 @@ fn time_of(field: TagField) -> TimeField
     ensures { result ≡ time_of field }
 {
     match field {
-        TagField::Holds { count: _, value } => TimeField::Time(value),
+        TagField::Holds { value, .. } => TimeField::Time(value),
         TagField::Missing => TimeField::NoTime,
     }
 }
@@ -131,16 +102,10 @@ fn time_of(field: TagField) -> TimeField
 fn both_or_neither(own: TagField, field: TagField) -> bool
     ensures { result ≡ both_or_neither own field }
 {
-    match own {
-        TagField::Holds { count: _, value: _ } => match field {
-            TagField::Holds { count: _, value: _ } => true,
-            TagField::Missing => false,
-        },
-        TagField::Missing => match field {
-            TagField::Holds { count: _, value: _ } => false,
-            TagField::Missing => true,
-        },
-    }
+    matches!(
+        (own, field),
+        (TagField::Holds { .. }, TagField::Holds { .. }) | (TagField::Missing, TagField::Missing)
+    )
 }
 
 #[tactic(auto, unfolding(lighting_frames::specs::Paper::Tags::fewest))]
@@ -158,42 +123,13 @@ fn is_fewest(field: TagField) -> bool
 fn own_tags(own: TagFields, f: TagFields) -> bool
     ensures { result ≡ own_tags own f }
 {
-    let own_operation = own.operation;
-    let own_level = own.level;
-    let own_rate = own.rate;
-    let own_step = own.step;
-    let own_fade = own.fade;
-    let operation = f.operation;
-    let level = f.level;
-    let rate = f.rate;
-    let step = f.step;
-    let fade = f.fade;
-    let duration = f.duration;
-    if both_or_neither(own_operation, operation) {
-        if both_or_neither(own_level, level) {
-            if both_or_neither(own_rate, rate) {
-                if both_or_neither(own_step, step) {
-                    if both_or_neither(own_fade, fade) {
-                        if is_fewest(fade) {
-                            is_fewest(duration)
-                        } else {
-                            false
-                        }
-                    } else {
-                        false
-                    }
-                } else {
-                    false
-                }
-            } else {
-                false
-            }
-        } else {
-            false
-        }
-    } else {
-        false
-    }
+    both_or_neither(own.operation, f.operation)
+        && both_or_neither(own.level, f.level)
+        && both_or_neither(own.rate, f.rate)
+        && both_or_neither(own.step, f.step)
+        && both_or_neither(own.fade, f.fade)
+        && is_fewest(f.fade)
+        && is_fewest(f.duration)
 }
 
 // ---- the reading
@@ -203,8 +139,7 @@ fn read_fields(f: TagFields) -> TaggedReading
     ensures { result ≡ read_fields f }
 {
     let operation = operation_of(f);
-    let field = f.duration;
-    let duration = time_of(field);
+    let duration = time_of(f.duration);
     if own_tags(tag_fields::tags_of(operation, duration), f) {
         TaggedReading::Reads {
             operation,
