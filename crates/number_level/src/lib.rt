@@ -22,7 +22,7 @@ fn nan_bits(pattern: u32) -> bool
 }
 
 // The REAL that a pattern stands for.
-#[tactic(auto, using(crate::proofs::Numbers::failed, crate::proofs::Numbers::read), unfolding(lighting_levels::specs::Paper::Level::real))]
+#[tactic(auto, unfolding(lighting_levels::specs::Paper::Level::real))]
 pub fn real_from(pattern: u32) -> f32
     ensures { result ≡ real pattern }
 {
@@ -35,7 +35,7 @@ pub fn real_from(pattern: u32) -> f32
 
 // A REAL's pattern. No record holds a NaN, for which one pattern is fixed here, since `f32::to_bits` is not
 // defined there.
-#[tactic(auto, using(crate::proofs::Numbers::failed, crate::proofs::Numbers::found), unfolding(lighting_levels::specs::Paper::Level::bits))]
+#[tactic(auto, unfolding(lighting_levels::specs::Paper::Level::bits))]
 pub fn bits_of(x: f32) -> u32
     ensures { result ≡ bits x }
 {
@@ -110,7 +110,7 @@ pub fn level_of(pattern: u32) -> Level
 
 // ---- in range or not
 
-#[tactic(auto, using(lighting_levels::proofs::Choosing::ifs, lighting_levels::proofs::Laws::in_range_on), unfolding(lighting_levels::specs::Paper::Level::in_range))]
+#[tactic(auto, unfolding(lighting_levels::specs::Paper::Level::in_range))]
 pub fn in_range(level: Level) -> bool
     ensures { result ≡ in_range level }
 {
@@ -120,7 +120,7 @@ pub fn in_range(level: Level) -> bool
     }
 }
 
-#[tactic(auto, using(lighting_levels::proofs::Choosing::ifs, lighting_levels::proofs::Laws::units_or_on), unfolding(lighting_levels::specs::Paper::Level::units_or))]
+#[tactic(auto, unfolding(lighting_levels::specs::Paper::Level::units_or))]
 pub fn units_or(otherwise: u32, level: Level) -> u32
     ensures { result ≡ units_or otherwise level }
 {
@@ -141,7 +141,7 @@ pub fn amount_units(x: f32) -> u32
 }
 
 // A command's level that is kept as a REAL.
-#[tactic(auto, using(lighting_levels::proofs::Ranges::level_range), unfolding(lighting_levels::specs::Paper::Level::level_units))]
+#[tactic(auto, unfolding(lighting_levels::specs::Paper::Level::level_units))]
 pub fn level_units(x: f32) -> u32
     ensures value { result ≡ level_units x }
     ensures upper_bound { result ≤ greatest_level }

@@ -9,14 +9,14 @@ ghost use Rattle.lighting_outputs.specs.Paper.Rows.{row_of, within, is_level, is
 ghost use Rattle.lighting_outputs.specs.declared.Property.TheVariants.{FadeTime};
 
 use lighting_levels::{GREATEST_LEVEL, LEAST_LEVEL};
-use lighting_outputs::{NO_SLOT, Parameters, Property, SLOT_6};
+use lighting_outputs::{LEAST_TIME, NO_SLOT, Parameters, Property, SLOT_6};
 
 // Both ends belong to the range.
 #[tactic(auto, using(lighting_levels::proofs::Choosing::ifs), unfolding(lighting_outputs::specs::Paper::Rows::within))]
 pub fn is_within(low: u32, high: u32, v: u32) -> bool
     ensures { result ≡ within low high v }
 {
-    if low <= v { v <= high } else { false }
+    low <= v && v <= high
 }
 
 // A level in units: 0, or 1 to 100 percent.
@@ -24,11 +24,7 @@ pub fn is_within(low: u32, high: u32, v: u32) -> bool
 pub fn is_level(v: u32) -> bool
     ensures { result ≡ is_level v }
 {
-    if v == 0 {
-        true
-    } else {
-        is_within(LEAST_LEVEL, GREATEST_LEVEL, v)
-    }
+    v == 0 || is_within(LEAST_LEVEL, GREATEST_LEVEL, v)
 }
 
 // ---- times, in milliseconds, as the set of parameters has them
@@ -43,24 +39,19 @@ pub fn is_fade_time(parameters: Parameters, v: u32) -> bool
 pub fn is_duration(parameters: Parameters, v: u32) -> bool
     ensures { result ≡ within 100 parameters.duration v }
 {
-    is_within(100, parameters.duration, v)
+    is_within(LEAST_TIME, parameters.duration, v)
 }
 
 // A fade lasts at most the longest fade time, and no ramp longer than this.
-const LONGEST_RAMP: u32 = 800000;
+const LONGEST_RAMP: u32 = 800_000;
 
 fn longest_movement(parameters: Parameters) -> u32
     ensures { result ≡ longest_movement parameters }
 {
-    if LONGEST_RAMP < parameters.fade {
-        parameters.fade
-    } else {
-        LONGEST_RAMP
-    }
+    parameters.fade.max(LONGEST_RAMP)
 }
 
 // What a movement lasts.
-#[tactic(auto, unfolding(lighting_outputs::specs::Paper::Rows::within))]
 pub fn is_length(parameters: Parameters, v: u32) -> bool
     ensures { result ≡ within 1 (longest_movement parameters) v }
 {
@@ -74,11 +65,7 @@ pub fn is_length(parameters: Parameters, v: u32) -> bool
 pub fn is_slot(i: u32) -> bool
     ensures { result ≡ is_slot i }
 {
-    if i == SLOT_6 as u32 {
-        false
-    } else {
-        i < NO_SLOT as u32
-    }
+    i != u32::from(SLOT_6) && i < u32::from(NO_SLOT)
 }
 
 // A priority is a slot's number counted from 1.
@@ -86,7 +73,7 @@ pub fn is_slot(i: u32) -> bool
 pub fn is_priority(n: u32) -> bool
     ensures { result ≡ is_priority n }
 {
-    if n == 0 { false } else { is_slot(n - 1) }
+    n != 0 && is_slot(n - 1)
 }
 
 // ---- places in a table
@@ -95,7 +82,7 @@ pub fn is_priority(n: u32) -> bool
 pub fn index(n: u8) -> usize
     ensures { result ≡ n }
 {
-    n as usize
+    usize::from(n)
 }
 
 pub fn wide_index(v: u32) -> usize
@@ -108,5 +95,5 @@ pub fn wide_index(v: u32) -> usize
 pub fn least(a: usize, b: usize) -> usize
     ensures { result ≡ min a b }
 {
-    if a < b { a } else { b }
+    a.min(b)
 }

@@ -5,52 +5,43 @@ ghost use Rattle.lighting_levels.specs.Paper.Level.{real};
 ghost use Rattle.lighting_outputs.specs.Paper.Rows.{row_of, is_amount, meets};
 
 use lighting_levels::{GREATEST_LEVEL, LEAST_LEVEL};
-use lighting_outputs::{Parameters, Property, Range};
+use lighting_outputs::{LEAST_TIME, Parameters, Property, Range};
 
 // In milliseconds: `longest_blink` of the definitions is the same.
-const LONGEST_BLINK: u32 = 86400000;
+const LONGEST_BLINK: u32 = 86_400_000;
 
-#[tactic(auto, using(lighting_levels::proofs::Choosing::ifs, lighting_outputs::proofs::Laws::row_of_on))]
 pub fn row_of(parameters: Parameters, p: Property) -> Range
     ensures { result ≡ row_of parameters p }
 {
     match p {
-        Property::RelinquishDefault => Range::Percent,
+        Property::RelinquishDefault | Property::BinaryActiveValue | Property::BinaryInactiveValue =>
+            Range::Percent,
         Property::FadeTime => Range::Whole {
-            low: 100,
+            low: LEAST_TIME,
             high: parameters.fade,
         },
-        Property::RampRate => Range::Amount,
-        Property::StepIncrement => Range::Amount,
-        Property::BlinkEnable => Range::Whole { low: 0, high: 1 },
-        Property::BlinkTime => Range::Whole {
+        Property::RampRate | Property::StepIncrement => Range::Amount,
+        Property::BlinkEnable | Property::Polarity => Range::Whole { low: 0, high: 1 },
+        Property::BlinkTime | Property::BlinkWarnDelay => Range::Whole {
             low: 0,
             high: LONGEST_BLINK,
         },
-        Property::BlinkWarnDelay => Range::Whole {
-            low: 0,
-            high: LONGEST_BLINK,
-        },
-        Property::MinValue => Range::Limit,
-        Property::MaxValue => Range::Limit,
+        Property::MinValue | Property::MaxValue => Range::Limit,
         Property::CommandPriority => Range::Priority,
         Property::ElapsedActiveTime => Range::Whole { low: 0, high: 0 },
-        Property::PresentValue => Range::ReadOnly,
-        Property::ProgressValue => Range::ReadOnly,
-        Property::InProcess => Range::ReadOnly,
-        Property::LastOperation => Range::ReadOnly,
-        Property::LastLevel => Range::ReadOnly,
-        Property::LastRate => Range::ReadOnly,
-        Property::LastStep => Range::ReadOnly,
-        Property::LastFadeTime => Range::ReadOnly,
-        Property::LastDuration => Range::ReadOnly,
-        Property::BinaryActiveValue => Range::Percent,
-        Property::BinaryInactiveValue => Range::Percent,
-        Property::Polarity => Range::Whole { low: 0, high: 1 },
-        Property::BinaryPresentValue => Range::ReadOnly,
-        Property::RelayState => Range::ReadOnly,
-        Property::SlotValue(_) => Range::ReadOnly,
-        Property::Unknown => Range::ReadOnly,
+        Property::PresentValue
+        | Property::ProgressValue
+        | Property::InProcess
+        | Property::LastOperation
+        | Property::LastLevel
+        | Property::LastRate
+        | Property::LastStep
+        | Property::LastFadeTime
+        | Property::LastDuration
+        | Property::BinaryPresentValue
+        | Property::RelayState
+        | Property::SlotValue(_)
+        | Property::Unknown => Range::ReadOnly,
     }
 }
 
@@ -64,14 +55,13 @@ pub fn is_amount(x: f32) -> bool
     number_level::in_range(number_level::amount_of_real(x))
 }
 
-#[tactic(auto, unfolding(lighting_outputs::specs::Paper::Rows::is_amount))]
 pub fn is_amount_pattern(pattern: u32) -> bool
     ensures { result ≡ is_amount (real pattern) }
 {
     is_amount(number_level::real_from(pattern))
 }
 
-#[tactic(auto, using(lighting_levels::proofs::Choosing::ifs, lighting_outputs::proofs::Laws::meets_on), unfolding(lighting_outputs::specs::Paper::Rows::meets))]
+#[tactic(auto, unfolding(lighting_outputs::specs::Paper::Rows::meets))]
 fn is_met(row: Range, v: u32) -> bool
     ensures { result ≡ meets row v }
 {
@@ -86,7 +76,6 @@ fn is_met(row: Range, v: u32) -> bool
 }
 
 // What is kept of a property.
-#[tactic(auto, unfolding(lighting_outputs::specs::Paper::Rows::meets))]
 pub fn fits(parameters: Parameters, p: Property, v: u32) -> bool
     ensures { result ≡ meets (row_of parameters p) v }
 {

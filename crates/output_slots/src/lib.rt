@@ -13,18 +13,14 @@ use lighting_outputs::{NO_SLOT, SLOTS, Slots};
 pub fn winning(s: Slots) -> u32
     ensures { result ≡ winner s }
 {
-    u16::trailing_zeros(s.live)
+    s.live.trailing_zeros()
 }
 
 #[tactic(auto, using(lighting_outputs::proofs::Priorities::Mask::dead_past, lighting_outputs::proofs::Priorities::Mask::tested), unfolding(lighting_outputs::specs::Paper::Slots::is_live))]
 pub fn is_live(s: Slots, i: u8) -> bool
     ensures { result ≡ is_live s i }
 {
-    if i < NO_SLOT {
-        s.live & (1u16 << i) != 0
-    } else {
-        false
-    }
+    i < NO_SLOT && s.live & (1u16 << i) != 0
 }
 
 #[tactic(auto, using(lighting_levels::proofs::Choosing::ifs, lighting_outputs::proofs::Priorities::Mask::shifted), unfolding(lighting_outputs::specs::Paper::Slots::mask_emptied))]
@@ -50,14 +46,13 @@ fn mask_fill(live: u16, i: u8) -> u16
 }
 
 #[tactic(auto, using(lighting_levels::proofs::Choosing::ifs), unfolding(lighting_outputs::specs::Paper::Slots::level_set))]
-fn level_set(levels: [u32; SLOTS], i: u8, v: u32) -> [u32; SLOTS]
+fn level_set(mut levels: [u32; SLOTS], i: u8, v: u32) -> [u32; SLOTS]
     ensures { result ≡ level_set levels i v }
 {
-    let mut l = levels;
     if i < NO_SLOT {
-        l[i as usize] = v;
+        levels[usize::from(i)] = v;
     }
-    l
+    levels
 }
 
 // An emptied slot's level is 0, so that equal slots are equal records.
@@ -65,10 +60,9 @@ fn level_set(levels: [u32; SLOTS], i: u8, v: u32) -> [u32; SLOTS]
 pub fn empty(s: Slots, i: u8) -> Slots
     ensures { result ≡ emptied s i }
 {
-    let levels = s.levels;
     Slots {
         live: mask_empty(s.live, i),
-        levels: level_set(levels, i, 0),
+        levels: level_set(s.levels, i, 0),
     }
 }
 
@@ -76,21 +70,10 @@ pub fn empty(s: Slots, i: u8) -> Slots
 pub fn fill(s: Slots, i: u8, v: u32) -> Slots
     ensures { result ≡ filled s i v }
 {
-    let levels = s.levels;
     Slots {
         live: mask_fill(s.live, i),
-        levels: level_set(levels, i, v),
+        levels: level_set(s.levels, i, v),
     }
-}
-
-// The level of slot i. The levels are copied alone, and only where one is looked up: a copy of all of the
-// slots would put the levels askew.
-fn level_of(s: Slots, i: u32) -> u32
-    requires { i < slot_count }
-    ensures { result ≡ get_or s.levels i 0 }
-{
-    let levels = s.levels;
-    levels[i as usize]
 }
 
 // The level of slot i, or d where there is no such slot.
@@ -98,11 +81,7 @@ fn level_of(s: Slots, i: u32) -> u32
 pub fn level_at(d: u32, s: Slots, i: u32) -> u32
     ensures { result ≡ level_at d s i }
 {
-    if i < NO_SLOT as u32 {
-        level_of(s, i)
-    } else {
-        d
-    }
+    *s.levels.get(i as usize).unwrap_or(&d)
 }
 
 // The winner's level, or d with no live slot.

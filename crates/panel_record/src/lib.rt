@@ -21,7 +21,7 @@ pub fn four_hours(outputs: u32) -> Parameters
 {
     Parameters {
         stations: 8,
-        outputs: outputs,
+        outputs,
         fade: MOST_FADE,
         duration: MOST_DURATION,
     }
@@ -32,19 +32,10 @@ pub fn four_hours(outputs: u32) -> Parameters
 pub fn is_startable(parameters: Parameters) -> bool
     ensures { result ≡ startable parameters }
 {
-    if is_within(1, MOST_STATIONS, parameters.stations) {
-        if is_within(1, MOST_OUTPUTS, parameters.outputs) {
-            if is_within(LEAST_TIME, MOST_FADE, parameters.fade) {
-                is_within(LEAST_TIME, MOST_DURATION, parameters.duration)
-            } else {
-                false
-            }
-        } else {
-            false
-        }
-    } else {
-        false
-    }
+    is_within(1, MOST_STATIONS, parameters.stations)
+        && is_within(1, MOST_OUTPUTS, parameters.outputs)
+        && is_within(LEAST_TIME, MOST_FADE, parameters.fade)
+        && is_within(LEAST_TIME, MOST_DURATION, parameters.duration)
 }
 
 // ---- the record
@@ -55,8 +46,8 @@ pub fn fresh_record(parameters: Parameters, tenants: u32) -> PanelRecord
 {
     PanelRecord {
         time: 0,
-        parameters: parameters,
-        tenants: tenants,
+        parameters,
+        tenants,
     }
 }
 
@@ -78,11 +69,8 @@ pub fn tenants_of(kept: PanelRecord) -> u32
     kept.tenants
 }
 
-// Written in place: it names no other field.
 pub fn with_time(kept: PanelRecord, t: u64) -> PanelRecord
     ensures { result ≡ with_time kept t }
 {
-    let mut record = kept;
-    record.time = t;
-    record
+    PanelRecord { time: t, ..kept }
 }

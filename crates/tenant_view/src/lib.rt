@@ -4,6 +4,7 @@
 ghost use Rattle.std.specs.Prelude.{◌≡◌, ◌<◌};
 ghost use Rattle.lighting_outputs.specs.Paper.Tenants.{is_tenant, whole_percent, shown_level, hidden};
 
+use lighting_levels::LEAST_LEVEL;
 use lighting_outputs::SLOT_6;
 
 // Bit n of the marks makes station n a tenant: tested by a shifted mask.
@@ -14,12 +15,12 @@ pub fn is_tenant(marks: u32, station: u8) -> bool
     marks & (1u32 << station) != 0
 }
 
-// A level rounded down to whole percent.
+// A level rounded down to whole percent: the least level above 0 is one percent.
 #[tactic(auto, unfolding(lighting_outputs::specs::Paper::Tenants::whole_percent))]
 fn whole_percent(level: u32) -> u32
     ensures { result ≡ whole_percent level }
 {
-    level / 65536 * 65536
+    level / LEAST_LEVEL * LEAST_LEVEL
 }
 
 // A level that a tenant reads in whole percent, and a service station as it is.
@@ -35,5 +36,5 @@ pub fn shown_level(tenant: bool, level: u32) -> u32
 pub fn is_hidden(tenant: bool, slot: u8) -> bool
     ensures { result ≡ hidden tenant slot }
 {
-    if tenant { slot <= SLOT_6 } else { false }
+    tenant && slot <= SLOT_6
 }
