@@ -3,87 +3,103 @@
 // hold becomes the greatest that it can, and numbers after the 49th are left out.
 #![tactic(auto)]
 
+ghost use Rattle.std.specs.Prelude.{◌≡◌, ℕ, ◌<◌, ◌≤◌, min, slice_index};
+ghost use Rattle.lent_rows.specs.declared.TheConstants.{NUMBERS};
+ghost use Rattle.lent_rows.specs.Rows.{no_row, fed, closed};
+
 pub mod numbers;
 pub mod outputs;
 pub mod parameters;
 pub mod stations;
 
+use numbers::Narrow;
+
 // The numbers of a row: an output's place and its 48 fields. No other row has more.
 pub const NUMBERS: usize = 49;
 
-// A row as far as it is read: its letter, 0 before the first character; the numbers that are whole; and the
-// one that may still go on.
-#[derive(Clone, Copy)]
-pub struct Row {
-    pub letter: u8,
-    pub numbers: [u64; NUMBERS],
-    pub count: usize,
-    pub open: bool,
-    pub value: u64,
+// A record of a table, which has a row of its own: its place, then its fields.
+pub trait Record: Copy {
+    ghost LENGTH: { ℕ };
+
+    const LETTER: u8;
+
+    // How many numbers the row has.
+    const LENGTH: usize;
+
+    // The record of a row.
+    fn of(row: &[u64; NUMBERS]) -> Self;
+
+    // The row of a record at a place of its table, and zeros after it.
+    fn row(self, at: usize) -> [u64; NUMBERS];
+
+    // As document 01 has it.
+    fn fresh() -> Self;
+
+    ghost within: { LENGTH ≤ NUMBERS };
+}
+
+// Whether a record is a fresh one: the two have the same row.
+pub fn is_fresh<R: Record>(record: R) -> bool {
+    record.row(0) == R::fresh().row(0)
 }
 
 // ---- a row, read
 
-pub fn fresh_row() -> Row {
-    Row {
-        letter: 0,
-        numbers: [0; NUMBERS],
-        count: 0,
-        open: false,
-        value: 0,
-    }
+// A row as far as it is read: its letter, once it has come; the numbers that are whole, and zeros after them;
+// and the number that may still go on.
+#[derive(Clone, Copy)]
+pub struct Row {
+    pub letter: Option<u8>,
+    pub numbers: [u64; NUMBERS],
+    pub count: usize,
+    pub pending: Option<u64>,
 }
 
-fn with_letter(w: Row, c: u8) -> Row {
-    let read = w.numbers;
-    Row {
-        letter: c,
-        numbers: read,
-        count: w.count,
-        open: w.open,
-        value: w.value,
-    }
-}
-
-fn with_digit(w: Row, c: u8) -> Row {
-    let read = w.numbers;
-    Row {
-        letter: w.letter,
-        numbers: read,
-        count: w.count,
-        open: true,
-        value: numbers::digit_after(w.value, c),
-    }
-}
-
-// The number under way ends.
-pub fn closed(w: Row) -> Row {
-    let mut read = w.numbers;
-    let mut count = w.count;
-    if w.open {
-        if count < NUMBERS {
-            read[count] = w.value;
-            count += 1;
+impl Row {
+    pub fn new() -> Row
+        ensures { result ≡ no_row }
+    {
+        Row {
+            letter: None,
+            numbers: [0; NUMBERS],
+            count: 0,
+            pending: None,
         }
     }
-    Row {
-        letter: w.letter,
-        numbers: read,
-        count: count,
-        open: false,
-        value: 0,
-    }
-}
 
-// The row after one more character, which is no newline.
-pub fn feed(w: Row, c: u8) -> Row {
-    if w.letter == 0 {
-        return with_letter(w, c);
+    // One more character, which is no newline. Before the letter zero bytes are passed over.
+    pub fn feed(&mut self, c: u8)
+        ensures { self.new ≡ fed self.old c }
+    {
+        if self.letter.is_none() {
+            if c != 0 {
+                self.letter = Some(c);
+            }
+        } else if c.is_ascii_digit() {
+            self.pending = Some(numbers::digit_after(self.pending.unwrap_or(0), c));
+        } else {
+            self.close();
+        }
     }
-    if numbers::is_digit(c) {
-        with_digit(w, c)
-    } else {
-        closed(w)
+
+    // The number under way ends.
+    pub fn close(&mut self)
+        ensures { self.new ≡ closed self.old }
+    {
+        if let Some(number) = self.pending
+            && self.count < NUMBERS
+        {
+            self.numbers[self.count] = number;
+            self.count += 1;
+        }
+        self.pending = None;
+    }
+
+    // The bytes of a frame.
+    pub fn bytes(&self) -> [u8; NUMBERS]
+        ensures { (i : ℕ) → i < NUMBERS → slice_index result i ≡ min (slice_index self.now.numbers i) 255 }
+    {
+        self.numbers.map(|n| n.narrow())
     }
 }
 
@@ -91,35 +107,9 @@ pub fn feed(w: Row, c: u8) -> Row {
 
 pub fn put_row(page: &mut [u8], at: usize, letter: u8, row: &[u64]) -> usize {
     let mut mark = text_printing::put(page, at, letter);
-    let mut i: usize = 0;
-    while i < row.len() {
+    for n in row {
         mark = text_printing::put(page, mark, b' ');
-        mark = text_printing::put_decimal(page, mark, row[i]);
-        i += 1;
+        mark = text_printing::put_decimal(page, mark, *n);
     }
     text_printing::put(page, mark, b'\n')
-}
-
-// Whether two rows have the same numbers.
-pub fn same(a: [u64; NUMBERS], b: [u64; NUMBERS]) -> bool {
-    let mut i: usize = 0;
-    while i < NUMBERS {
-        if a[i] != b[i] {
-            return false;
-        }
-        i += 1;
-    }
-    true
-}
-
-// ---- the bytes of a frame
-
-pub fn bytes_of(n: [u64; NUMBERS]) -> [u8; NUMBERS] {
-    let mut bytes = [0u8; NUMBERS];
-    let mut i: usize = 0;
-    while i < NUMBERS {
-        bytes[i] = numbers::narrow8(n[i]);
-        i += 1;
-    }
-    bytes
 }

@@ -1,87 +1,73 @@
 // A station's record as the numbers of a row, and back. After its place: the answer's case 1 and number 2,
 // the last number 3, and the frame's bytes 4 to 34.
-use super::NUMBERS;
-use super::numbers::{narrow8, narrow32, wide8, wide32};
+ghost use Rattle.std.proofs.Common.{rules};
+
+use super::numbers::Narrow;
+use super::{NUMBERS, Record};
 use lighting_frames::{LONGEST_FRAME, Station};
 use lighting_outputs::Answer;
 
-// As many numbers as a station's row has.
-pub const STATION_NUMBERS: usize = 35;
+impl Record for Station {
+    ghost LENGTH = { 35 };
 
-// ---- from numbers to a record
+    ghost within = { Prim.search rules };
+
+    const LETTER: u8 = b's';
+
+    const LENGTH: usize = 35;
+
+    fn of(row: &[u64; NUMBERS]) -> Station {
+        Station {
+            answer: answer_of(row[1], row[2]),
+            number: row[3].narrow(),
+            frame: frame_of(&row[4..]),
+        }
+    }
+
+    fn row(self, at: usize) -> [u64; NUMBERS] {
+        let mut n = [0; NUMBERS];
+        n[0] = at as u64;
+        let (kind, number) = numbers_of(self.answer);
+        n[1] = kind;
+        n[2] = number;
+        n[3] = u64::from(self.number);
+        for (number, byte) in n[4..].iter_mut().zip(self.frame) {
+            *number = u64::from(byte);
+        }
+        n
+    }
+
+    fn fresh() -> Station {
+        output_fresh::fresh_station()
+    }
+}
+
+// ---- the answer, by its case and its number
 
 fn answer_of(kind: u64, n: u64) -> Answer {
     match kind {
         0 => Answer::Done,
-        1 => Answer::Value(narrow32(n)),
+        1 => Answer::Value(n.narrow()),
         2 => Answer::Absent,
-        _ => Answer::Refused(narrow8(n)),
+        _ => Answer::Refused(n.narrow()),
     }
 }
 
-fn frame_of(n: [u64; NUMBERS]) -> [u8; LONGEST_FRAME] {
-    let mut frame = [0u8; LONGEST_FRAME];
-    let mut i: usize = 0;
-    while i < LONGEST_FRAME {
-        frame[i] = narrow8(n[4 + i]);
-        i += 1;
+fn numbers_of(answer: Answer) -> (u64, u64) {
+    match answer {
+        Answer::Done => (0, 0),
+        Answer::Value(value) => (1, u64::from(value)),
+        Answer::Absent => (2, 0),
+        Answer::Refused(number) => (3, u64::from(number)),
+    }
+}
+
+// ---- the frame
+
+fn frame_of(numbers: &[u64]) -> [u8; LONGEST_FRAME] {
+    let mut frame = [0; LONGEST_FRAME];
+    for (byte, n) in frame.iter_mut().zip(numbers) {
+        *byte = n.narrow();
     }
     frame
-}
-
-pub fn station_of(n: [u64; NUMBERS]) -> Station {
-    Station {
-        answer: answer_of(n[1], n[2]),
-        number: narrow32(n[3]),
-        frame: frame_of(n),
-    }
-}
-
-// ---- and back
-
-fn with_answer(n: [u64; NUMBERS], a: Answer) -> [u64; NUMBERS] {
-    let mut r = n;
-    match a {
-        Answer::Done => {}
-        Answer::Value(v) => {
-            r[1] = 1;
-            r[2] = wide32(v);
-        }
-        Answer::Absent => {
-            r[1] = 2;
-        }
-        Answer::Refused(number) => {
-            r[1] = 3;
-            r[2] = wide8(number);
-        }
-    }
-    r
-}
-
-fn with_frame(n: [u64; NUMBERS], frame: [u8; LONGEST_FRAME]) -> [u64; NUMBERS] {
-    let mut r = n;
-    let mut i: usize = 0;
-    while i < LONGEST_FRAME {
-        r[4 + i] = wide8(frame[i]);
-        i += 1;
-    }
-    r
-}
-
-// The station at a place of its table.
-pub fn station_numbers(at: usize, k: Station) -> [u64; NUMBERS] {
-    let a = k.answer;
-    let frame = k.frame;
-    let mut n = [0u64; NUMBERS];
-    n[0] = at as u64;
-    n[3] = wide32(k.number);
-    with_frame(with_answer(n, a), frame)
-}
-
-// Whether its record is a fresh one.
-pub fn is_fresh_station(k: Station) -> bool {
-    super::same(
-        station_numbers(0, k),
-        station_numbers(0, output_fresh::fresh_station()),
-    )
 }

@@ -18,408 +18,232 @@
 // safe and ending. An error is always the reader's or the writer's, and ends the session.
 #![tactic(auto)]
 
-use lent_rows::Row;
+use lent_rows::numbers::{Narrow, place};
+use lent_rows::parameters::{parameters_numbers, parameters_of, tenants_of};
+use lent_rows::{NUMBERS, Record, Row};
 use lighting_frames::Station;
-use lighting_outputs::{Output, Parameters};
+use lighting_outputs::{Answer, Output, Parameters};
 use lighting_panel::PanelRecord;
 use std::io;
 use std::io::{Read, Write};
 
-// After some of the rows: the row that is being read, how many outputs and stations are lent, the page's
-// mark, and whether more may come.
-#[derive(Drop)]
-struct Turn {
-    row: Row,
-    outputs: usize,
-    stations: usize,
-    mark: usize,
-    more: bool,
-}
-
-// ---- a turn by value
-
-fn fresh_turn() -> Turn {
-    Turn {
-        row: lent_rows::fresh_row(),
-        outputs: 0,
-        stations: 0,
-        mark: 0,
-        more: true,
-    }
-}
-
-fn with_counts(t: Turn, outputs: usize, stations: usize) -> Turn {
-    let row = t.row;
-    Turn {
-        row: row,
-        outputs: outputs,
-        stations: stations,
-        mark: t.mark,
-        more: t.more,
-    }
-}
-
-fn with_mark(t: Turn, mark: usize) -> Turn {
-    let row = t.row;
-    Turn {
-        row: row,
-        outputs: t.outputs,
-        stations: t.stations,
-        mark: mark,
-        more: t.more,
-    }
-}
-
-fn with_row(t: &Turn, row: Row) -> Turn {
-    Turn {
-        row: row,
-        outputs: t.outputs,
-        stations: t.stations,
-        mark: t.mark,
-        more: t.more,
-    }
-}
-
-fn with_character(t: Turn, c: u8) -> Turn {
-    let row = lent_rows::feed(t.row, c);
-    Turn {
-        row: row,
-        outputs: t.outputs,
-        stations: t.stations,
-        mark: t.mark,
-        more: t.more,
-    }
-}
-
-fn with_next_row(t: &Turn) -> Turn {
-    with_row(t, lent_rows::fresh_row())
-}
-
-fn ended(t: Turn) -> Turn {
-    let row = t.row;
-    Turn {
-        row: row,
-        outputs: t.outputs,
-        stations: t.stations,
-        mark: t.mark,
-        more: false,
-    }
-}
-
 // ---- the tables
 
-// Every record fresh, and beside them what the panel's own record is to be.
-fn clear(
-    outputs: &mut [Output],
-    stations: &mut [Station],
-    kept: &mut PanelRecord,
-    parameters: Parameters,
-    moment: u64,
-) {
-    panel_tables::fresh_outputs(outputs, parameters);
-    panel_tables::fresh_stations(stations);
-    keep(kept, parameters, 0, moment);
+// One record more than any panel has.
+const OUTPUTS: usize = 65;
+
+const STATIONS: usize = 33;
+
+// The tables, of which the first so many records are lent, and the panel's own record.
+#[derive(Drop)]
+struct Tables {
+    outputs: [Output; OUTPUTS],
+    stations: [Station; STATIONS],
+    kept: PanelRecord,
+    lent_outputs: usize,
+    lent_stations: usize,
 }
 
-fn keep(kept: &mut PanelRecord, parameters: Parameters, tenants: u32, moment: u64) {
-    *kept = panel_record::with_time(panel_record::fresh_record(parameters, tenants), moment);
-}
+impl Tables {
+    // None is lent.
+    fn new() -> Tables {
+        let parameters = panel_record::four_hours(1);
+        Tables {
+            outputs: [output_fresh::fresh_output(parameters); OUTPUTS],
+            stations: [output_fresh::fresh_station(); STATIONS],
+            kept: panel_record::fresh_record(parameters, 0),
+            lent_outputs: 0,
+            lent_stations: 0,
+        }
+    }
 
-fn lend_output(outputs: &mut [Output], at: usize, o: Output) {
-    if at < outputs.len() {
-        outputs[at] = o;
+    // Every record fresh, as many lent as the row says, and the set that of the old panel.
+    fn clear(&mut self, row: &[u64; NUMBERS]) {
+        let parameters = panel_record::four_hours(row[0].narrow());
+        panel_tables::fresh_outputs(&mut self.outputs, parameters);
+        panel_tables::fresh_stations(&mut self.stations);
+        self.keep(parameters, 0, row[2]);
+        self.lent_outputs = place(row[0]);
+        self.lent_stations = place(row[1]);
+    }
+
+    fn keep(&mut self, parameters: Parameters, tenants: u32, moment: u64) {
+        self.kept = panel_record::with_time(
+            panel_record::fresh_record(parameters, tenants),
+            moment,
+        );
+    }
+
+    // The panel is started with the set and the marks.
+    fn start(&mut self, parameters: Parameters, tenants: u32) -> Answer {
+        lent_parts::start(
+            &mut self.outputs,
+            &mut self.stations,
+            &mut self.kept,
+            self.lent_outputs,
+            self.lent_stations,
+            parameters,
+            tenants,
+        )
+    }
+
+    // The first so many bytes go to the panel.
+    fn send(&mut self, bytes: &[u8], count: usize) -> Answer {
+        lent_parts::send(
+            &mut self.outputs,
+            &mut self.stations,
+            &mut self.kept,
+            self.lent_outputs,
+            self.lent_stations,
+            bytes,
+            count,
+        )
     }
 }
 
-fn lend_station(stations: &mut [Station], at: usize, k: Station) {
-    if at < stations.len() {
-        stations[at] = k;
+// The record of a row, in its place.
+fn lend<R: Record>(records: &mut [R], row: &[u64; NUMBERS]) {
+    let at = place(row[0]);
+    if at < records.len() {
+        records[at] = R::of(row);
     }
 }
 
 // ---- what is left
 
-fn put_counts<W: Write>(
+// A row for each of the first so many records that is not fresh.
+fn put_records<R: Record, W: Write>(
+    records: &[R],
+    lent: usize,
     out: &mut W,
     page: &mut [u8],
     mark: usize,
-    n: usize,
-    k: usize,
-    time: u64,
 ) -> io::Result<usize> {
-    let row = [n as u64, k as u64, time];
-    let room = text_found::with_room(out, page, mark)?;
-    Ok(lent_rows::put_row(page, room, b't', &row))
-}
-
-fn put_parameters<W: Write>(
-    out: &mut W,
-    page: &mut [u8],
-    mark: usize,
-    parameters: Parameters,
-    tenants: u32,
-) -> io::Result<usize> {
-    let row = lent_rows::parameters::parameters_numbers(parameters, tenants);
-    let room = text_found::with_room(out, page, mark)?;
-    Ok(lent_rows::put_row(page, room, b'p', &row))
-}
-
-fn put_output<W: Write>(
-    out: &mut W,
-    page: &mut [u8],
-    mark: usize,
-    at: usize,
-    o: Output,
-) -> io::Result<usize> {
-    if lent_rows::outputs::is_fresh_output(o) {
-        return Ok(mark);
+    let mut mark = mark;
+    for (at, record) in records.iter().enumerate().take(lent) {
+        if !lent_rows::is_fresh(*record) {
+            let row = record.row(at);
+            mark = text_found::with_room(out, page, mark)?;
+            mark = lent_rows::put_row(page, mark, R::LETTER, &row[..R::LENGTH]);
+        }
     }
-    let row = lent_rows::outputs::output_numbers(at, o);
+    Ok(mark)
+}
+
+fn put_left<W: Write>(
+    tables: &Tables,
+    out: &mut W,
+    page: &mut [u8],
+    mark: usize,
+) -> io::Result<usize> {
+    let counts = [
+        tables.lent_outputs as u64,
+        tables.lent_stations as u64,
+        tables.kept.time,
+    ];
+    let set = parameters_numbers(tables.kept.parameters, tables.kept.tenants);
     let room = text_found::with_room(out, page, mark)?;
-    Ok(lent_rows::put_row(page, room, b'o', &row))
-}
-
-fn put_station<W: Write>(
-    out: &mut W,
-    page: &mut [u8],
-    mark: usize,
-    at: usize,
-    k: Station,
-) -> io::Result<usize> {
-    if lent_rows::stations::is_fresh_station(k) {
-        return Ok(mark);
-    }
-    let row = lent_rows::stations::station_numbers(at, k);
-    let room = text_found::with_room(out, page, mark)?;
-    Ok(lent_rows::put_row(
-        page,
-        room,
-        b's',
-        &row[0..lent_rows::stations::STATION_NUMBERS],
-    ))
-}
-
-fn put_outputs<W: Write>(
-    outputs: &[Output],
-    n: usize,
-    out: &mut W,
-    page: &mut [u8],
-    mark: usize,
-) -> io::Result<usize> {
-    let mut at = mark;
-    let mut i: usize = 0;
-    while i < number_ranges::least(n, outputs.len()) {
-        let o = outputs[i];
-        at = put_output(out, page, at, i, o)?;
-        i += 1;
-    }
-    Ok(at)
-}
-
-fn put_stations<W: Write>(
-    stations: &[Station],
-    k: usize,
-    out: &mut W,
-    page: &mut [u8],
-    mark: usize,
-) -> io::Result<usize> {
-    let mut at = mark;
-    let mut i: usize = 0;
-    while i < number_ranges::least(k, stations.len()) {
-        let s = stations[i];
-        at = put_station(out, page, at, i, s)?;
-        i += 1;
-    }
-    Ok(at)
+    let head = lent_rows::put_row(page, room, b't', &counts);
+    let room = text_found::with_room(out, page, head)?;
+    let head = lent_rows::put_row(page, room, b'p', &set);
+    let middle = put_records(&tables.outputs, tables.lent_outputs, out, page, head)?;
+    put_records(&tables.stations, tables.lent_stations, out, page, middle)
 }
 
 // ---- rows
 
-// A row at its end.
-fn take_row<W: Write>(
-    outputs: &mut [Output],
-    stations: &mut [Station],
-    kept: &mut PanelRecord,
+fn put_answer<W: Write>(
+    answer: Answer,
     out: &mut W,
     page: &mut [u8],
-    t: Turn,
-) -> io::Result<Turn> {
-    let next = with_next_row(&t);
-    let row = lent_rows::closed(t.row);
-    let numbers = row.numbers;
-    let letter = row.letter;
-    match letter {
-        b't' => {
-            let parameters = panel_record::four_hours(lent_rows::numbers::narrow32(numbers[0]));
-            clear(outputs, stations, kept, parameters, numbers[2]);
-            Ok(with_counts(
-                next,
-                lent_rows::numbers::place(numbers[0]),
-                lent_rows::numbers::place(numbers[1]),
-            ))
+    mark: usize,
+) -> io::Result<usize> {
+    let room = text_found::with_room(out, page, mark)?;
+    Ok(text_printing::put_answer(page, room, answer))
+}
+
+// A row at its end.
+fn take_row<W: Write>(
+    tables: &mut Tables,
+    row: &Row,
+    out: &mut W,
+    page: &mut [u8],
+    mark: usize,
+) -> io::Result<usize> {
+    let numbers = &row.numbers;
+    match row.letter {
+        Some(b't') => tables.clear(numbers),
+        Some(b'o') => lend(&mut tables.outputs, numbers),
+        Some(b's') => lend(&mut tables.stations, numbers),
+        Some(b'p') => tables.keep(
+            parameters_of(numbers),
+            tenants_of(numbers),
+            tables.kept.time,
+        ),
+        Some(b'b') => {
+            let answer = tables.start(parameters_of(numbers), tenants_of(numbers));
+            return put_answer(answer, out, page, mark);
         }
-        b'o' => {
-            let o = lent_rows::outputs::output_of(numbers);
-            lend_output(outputs, lent_rows::numbers::place(numbers[0]), o);
-            Ok(next)
+        Some(b'f') => {
+            let answer = tables.send(&row.bytes(), row.count);
+            return put_answer(answer, out, page, mark);
         }
-        b's' => {
-            let s = lent_rows::stations::station_of(numbers);
-            lend_station(stations, lent_rows::numbers::place(numbers[0]), s);
-            Ok(next)
-        }
-        b'p' => {
-            let record = *kept;
-            let time = panel_record::time_of(record);
-            keep(
-                kept,
-                lent_rows::parameters::parameters_of(numbers),
-                lent_rows::parameters::tenants_of(numbers),
-                time,
-            );
-            Ok(next)
-        }
-        b'b' => {
-            let parameters = lent_rows::parameters::parameters_of(numbers);
-            let a = lent_parts::start(
-                outputs,
-                stations,
-                kept,
-                t.outputs,
-                t.stations,
-                parameters,
-                lent_rows::parameters::tenants_of(numbers),
-            );
-            let room = text_found::with_room(out, page, t.mark)?;
-            Ok(with_mark(next, text_printing::put_answer(page, room, a)))
-        }
-        b'f' => {
-            let bytes = lent_rows::bytes_of(numbers);
-            let a = lent_parts::send(
-                outputs,
-                stations,
-                kept,
-                t.outputs,
-                t.stations,
-                &bytes[..],
-                row.count,
-            );
-            let room = text_found::with_room(out, page, t.mark)?;
-            Ok(with_mark(next, text_printing::put_answer(page, room, a)))
-        }
-        b'l' => {
-            let record = *kept;
-            let time = panel_record::time_of(record);
-            let counts = put_counts(out, page, t.mark, t.outputs, t.stations, time)?;
-            let head = put_parameters(
-                out,
-                page,
-                counts,
-                panel_record::parameters_of(record),
-                panel_record::tenants_of(record),
-            )?;
-            let middle = put_outputs(outputs, t.outputs, out, page, head)?;
-            let end = put_stations(stations, t.stations, out, page, middle)?;
-            Ok(with_mark(next, end))
-        }
-        _ => Ok(next),
+        Some(b'l') => return put_left(tables, out, page, mark),
+        _ => {}
     }
+    Ok(mark)
 }
 
 // ---- the text
 
+// The rows that end in these bytes are taken; the last one may go on.
 fn take_chunk<W: Write>(
-    outputs: &mut [Output],
-    stations: &mut [Station],
-    kept: &mut PanelRecord,
-    out: &mut W,
-    page: &mut [u8],
-    from: Turn,
+    tables: &mut Tables,
+    row: &mut Row,
     s: &[u8],
-) -> io::Result<Turn> {
-    let mut t = from;
-    let mut i: usize = 0;
-    while i < s.len() {
-        let c = s[i];
-        i += 1;
-        if c == b'\n' {
-            t = take_row(outputs, stations, kept, out, page, t)?;
+    out: &mut W,
+    page: &mut [u8],
+    mark: usize,
+) -> io::Result<usize> {
+    let mut mark = mark;
+    for c in s {
+        if *c == b'\n' {
+            row.close();
+            mark = take_row(tables, row, out, page, mark)?;
+            *row = Row::new();
         } else {
-            t = with_character(t, c);
+            row.feed(*c);
         }
     }
-    Ok(t)
+    Ok(mark)
 }
 
-// Reads once, and takes what came; nothing comes at the end of the input.
-fn take_some<R: Read, W: Write>(
-    outputs: &mut [Output],
-    stations: &mut [Station],
-    kept: &mut PanelRecord,
-    input: &mut R,
-    out: &mut W,
-    page: &mut [u8],
-    chunk: &mut [u8],
-    t: Turn,
-) -> io::Result<Turn> {
-    let n = input.read(chunk)?;
-    if n == 0 {
-        return Ok(ended(t));
-    }
-    take_chunk(outputs, stations, kept, out, page, t, &chunk[0..n])
-}
-
-// All of it. A proved loop has to end, and nothing says that the input does: the turns are counted up to a
-// number that no run comes to.
+// All of it: the page's mark at its end. A proved loop has to end, and nothing says that the input does: the
+// turns are counted up to a number that no run comes to.
 fn take_all<R: Read, W: Write>(
-    outputs: &mut [Output],
-    stations: &mut [Station],
-    kept: &mut PanelRecord,
+    tables: &mut Tables,
     input: &mut R,
+    chunk: &mut [u8],
     out: &mut W,
     page: &mut [u8],
-    chunk: &mut [u8],
-) -> io::Result<Turn> {
-    let mut t = fresh_turn();
+) -> io::Result<usize> {
+    let mut row = Row::new();
+    let mut mark = 0;
     for _ in 0..u64::MAX {
-        t = take_some(outputs, stations, kept, input, out, page, chunk, t)?;
-        if !t.more {
-            return Ok(t);
+        let n = input.read(chunk)?;
+        if n == 0 {
+            break;
         }
+        mark = take_chunk(tables, &mut row, &chunk[..n], out, page, mark)?;
     }
-    Ok(t)
+    Ok(mark)
 }
 
-fn lend<R: Read, W: Write>(
-    outputs: &mut [Output],
-    stations: &mut [Station],
-    kept: &mut PanelRecord,
-    input: &mut R,
-    out: &mut W,
-    page: &mut [u8],
-    chunk: &mut [u8],
-) -> io::Result<()> {
-    let t = take_all(outputs, stations, kept, input, out, page, chunk)?;
-    text_found::flush(out, page, t.mark)
-}
-
-// Over tables of its own, with one record more than any panel has: 65 outputs and 33 stations.
+// Over tables of its own.
 pub fn run<R: Read, W: Write>(input: &mut R, out: &mut W) -> io::Result<()> {
-    let parameters = panel_record::four_hours(1);
-    let output = output_fresh::fresh_output(parameters);
-    let mut outputs = [output; 65];
-    let record = output_fresh::fresh_station();
-    let mut stations = [record; 33];
-    let mut kept = panel_record::fresh_record(parameters, 0);
+    let mut tables = Tables::new();
     let mut page = [0u8; 65536];
     let mut chunk = [0u8; 65536];
-    lend(
-        &mut outputs,
-        &mut stations,
-        &mut kept,
-        input,
-        out,
-        &mut page,
-        &mut chunk,
-    )
+    let mark = take_all(&mut tables, input, &mut chunk, out, &mut page)?;
+    text_found::flush(out, &page, mark)
 }
