@@ -24,11 +24,11 @@ pub fn start(
     ensures value { result ≡ (begun n k parameters tenants (panel_of outputs.old stations.old kept.old)).answer }
     ensures kept_after { panel_of outputs.new stations.new kept.new ≡ (begun n k parameters tenants (panel_of outputs.old stations.old kept.old)).panel }
 {
-    let lent = number_ranges::least(n, outputs.len());
-    let beside = number_ranges::least(k, stations.len());
+    let lent = n.min(outputs.len());
+    let beside = k.min(stations.len());
     panel::start(
-        &mut outputs[0..lent],
-        &mut stations[0..beside],
+        &mut outputs[..lent],
+        &mut stations[..beside],
         kept,
         parameters,
         tenants,
@@ -49,13 +49,13 @@ pub fn send(
     ensures value { result ≡ (sent n k (take count bytes.now) (panel_of outputs.old stations.old kept.old)).answer }
     ensures kept_after { panel_of outputs.new stations.new kept.new ≡ (sent n k (take count bytes.now) (panel_of outputs.old stations.old kept.old)).panel }
 {
-    let lent = number_ranges::least(n, outputs.len());
-    let beside = number_ranges::least(k, stations.len());
-    let held = number_ranges::least(count, bytes.len());
+    let lent = n.min(outputs.len());
+    let beside = k.min(stations.len());
+    let held = count.min(bytes.len());
     panel::frame(
-        &mut outputs[0..lent],
-        &mut stations[0..beside],
+        &mut outputs[..lent],
+        &mut stations[..beside],
         kept,
-        &bytes[0..held],
+        &bytes[..held],
     )
 }

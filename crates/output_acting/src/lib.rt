@@ -8,6 +8,7 @@ ghost use Rattle.lighting_outputs.specs.Paper.Relay.{inactive_not_below};
 ghost use Rattle.lighting_outputs.specs.Paper.Acting.{done, unchanged, changed_unless, acted};
 
 use lighting_outputs::{Answer, Outcome, Output, OutputRequest, Property};
+use property_write::settings;
 
 // The output changed, and judged.
 #[tactic(auto, unfolding(lighting_outputs::specs::Paper::Acting::done))]
@@ -42,7 +43,7 @@ fn change_unless(m: bool, unordered: bool, o: Output, n: Property, v: u32) -> Ou
     } else if unordered {
         unchanged(o, Answer::Refused(16))
     } else {
-        done(property_write::settings::change(o, n, v))
+        done(settings::change(o, n, v))
     }
 }
 
@@ -50,11 +51,9 @@ fn change_unless(m: bool, unordered: bool, o: Output, n: Property, v: u32) -> Ou
 fn change(o: Output, n: Property, v: u32) -> Outcome
     ensures { result ≡ changed_unless (min_over_max (settings_with o.settings n v)) (inactive_not_below (relay_with o.relay n v)) o n v }
 {
-    let c = o.settings;
-    let relay = o.relay;
     change_unless(
-        property_write::settings::min_over_max(property_write::settings::settings_with(c, n, v)),
-        output_relay::inactive_not_below(property_write::settings::relay_with(relay, n, v)),
+        settings::min_over_max(settings::settings_with(o.settings, n, v)),
+        output_relay::inactive_not_below(settings::relay_with(o.relay, n, v)),
         o,
         n,
         v,
@@ -77,17 +76,4 @@ pub fn act(tenant: bool, t: u64, o: Output, q: OutputRequest) -> Outcome
         ),
         OutputRequest::Commands(k) => done(command_effect::command(t, o, k)),
     }
-}
-
-// An outcome's parts.
-pub fn outcome_output(a: Outcome) -> Output
-    ensures { result ≡ a.output }
-{
-    a.output
-}
-
-pub fn outcome_answer(a: Outcome) -> Answer
-    ensures { result ≡ a.answer }
-{
-    a.answer
 }

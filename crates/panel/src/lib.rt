@@ -26,24 +26,16 @@ fn arrive(
     requires arrival { Arrival kept.old.time (length outputs.old) (length stations.old) bytes.now call }
     ensures { panel_result (panel_of outputs.new stations.new kept.new) result ≡ execute bytes.now (panel_of outputs.old stations.old kept.old) (Verdict.Arrives call) }
 {
-    let before = *kept;
-    let from = panel_record::time_of(before);
-    let moment = call.time;
-    panel_tables::advance_outputs(outputs, from, moment);
-    let request = call.request;
-    let tenant = tenant_view::is_tenant(panel_record::tenants_of(before), call.station);
+    panel_tables::advance_outputs(outputs, kept.time, call.time);
     let answer = panel_tables::serve(
         outputs,
-        tenant,
-        moment,
-        number_ranges::index(call.output),
-        request,
+        tenant_view::is_tenant(kept.tenants, call.station),
+        call.time,
+        usize::from(call.output),
+        call.request,
     );
-    let record = station_frame::station_record(answer, call.number, bytes);
-    let at = number_ranges::index(call.station);
-    stations[at] = record;
-    let after = panel_record::with_time(before, moment);
-    *kept = after;
+    stations[usize::from(call.station)] = station_frame::station_record(answer, call.number, bytes);
+    kept.time = call.time;
     answer
 }
 
@@ -64,11 +56,8 @@ fn execute(
         Verdict::TurnedDown(r) => Answer::Refused(r),
         Verdict::Copied(a) => a,
         Verdict::Clocked(t) => {
-            let before = *kept;
-            let from = panel_record::time_of(before);
-            panel_tables::advance_outputs(outputs, from, t);
-            let after = panel_record::with_time(before, t);
-            *kept = after;
+            panel_tables::advance_outputs(outputs, kept.time, t);
+            kept.time = t;
             Answer::Done
         }
         Verdict::Arrives(call) => arrive(outputs, stations, kept, bytes, call),
@@ -95,8 +84,7 @@ pub fn start(
     }
     panel_tables::fresh_outputs(outputs, parameters);
     panel_tables::fresh_stations(stations);
-    let record = panel_record::fresh_record(parameters, tenants);
-    *kept = record;
+    *kept = panel_record::fresh_record(parameters, tenants);
     Answer::Done
 }
 
@@ -110,10 +98,9 @@ pub fn frame(
 ) -> Answer
     ensures { panel_result (panel_of outputs.new stations.new kept.new) result ≡ frame_step (panel_of outputs.old stations.old kept.old) bytes.now }
 {
-    let record = *kept;
-    if !panel_judging::panel_sound(outputs, stations, record) {
+    if !panel_judging::panel_sound(outputs, stations, *kept) {
         return Answer::Refused(1);
     }
-    let verdict = panel_judging::decide(outputs, stations, record, bytes);
+    let verdict = panel_judging::decide(outputs, stations, *kept, bytes);
     execute(outputs, stations, kept, bytes, verdict)
 }

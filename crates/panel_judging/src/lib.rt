@@ -16,34 +16,18 @@ use lighting_panel::PanelRecord;
 
 // ---- refusal 1
 
-#[tactic(auto, using(crate::proofs::Loops::every_all, crate::proofs::Loops::every_more, crate::proofs::Loops::every_stop))]
 fn outputs_sound(outputs: &[Output], parameters: Parameters, t: u64) -> bool
     ensures { result ≡ every (sound parameters t) outputs.now }
 {
-    let mut i: usize = 0;
-    while i < outputs.len() {
-        let o = outputs[i];
-        if !output_rules::is_sound(parameters, t, o) {
-            return false;
-        }
-        i += 1;
-    }
-    true
+    outputs
+        .iter()
+        .all(|o| output_rules::is_sound(parameters, t, *o))
 }
 
-#[tactic(auto, using(crate::proofs::Loops::every_all, crate::proofs::Loops::every_more, crate::proofs::Loops::every_stop))]
 fn stations_sound(stations: &[Station]) -> bool
     ensures { result ≡ every station_sound stations.now }
 {
-    let mut i: usize = 0;
-    while i < stations.len() {
-        let k = stations[i];
-        if !station_judging::station_sound(k) {
-            return false;
-        }
-        i += 1;
-    }
-    true
+    stations.iter().all(|k| station_judging::station_sound(*k))
 }
 
 // Refusal 1: the kept set, then by it the counts, then each record.
@@ -51,17 +35,11 @@ fn stations_sound(stations: &[Station]) -> bool
 pub fn panel_sound(outputs: &[Output], stations: &[Station], kept: PanelRecord) -> bool
     ensures { result ≡ panel_sound (panel_of outputs.now stations.now kept) }
 {
-    let parameters = panel_record::parameters_of(kept);
-    if !panel_record::is_startable(parameters) {
-        return false;
-    }
-    if !station_judging::counts_sound(parameters, outputs.len(), stations.len()) {
-        return false;
-    }
-    if !outputs_sound(outputs, parameters, panel_record::time_of(kept)) {
-        return false;
-    }
-    stations_sound(stations)
+    let parameters = kept.parameters;
+    panel_record::is_startable(parameters)
+        && station_judging::counts_sound(parameters, outputs.len(), stations.len())
+        && outputs_sound(outputs, parameters, kept.time)
+        && stations_sound(stations)
 }
 
 // ---- the verdict
@@ -73,9 +51,7 @@ pub fn decide(outputs: &[Output], stations: &[Station], kept: PanelRecord, bytes
     requires stations_len { length stations.now ≡ kept.parameters.stations }
     ensures { result ≡ decide (panel_of outputs.now stations.now kept) bytes.now }
 {
-    let parameters = panel_record::parameters_of(kept);
-    let f = frame_parse::parse(parameters, outputs.len(), bytes);
-    let at = number_ranges::index(station_judging::station_of(f));
-    let record = stations[at];
-    station_judging::judge_by_station(panel_record::time_of(kept), record, bytes, f)
+    let f = frame_parse::parse(kept.parameters, outputs.len(), bytes);
+    let at = usize::from(station_judging::station_of(f));
+    station_judging::judge_by_station(kept.time, stations[at], bytes, f)
 }

@@ -1,10 +1,10 @@
 -- A loop that changes each record of a table in turn, of any type: what it has done up to an index.
-use mathlib.Core.Path.{◌≡◌, refl, sym, ap, ◌∙◌}
+use mathlib.Core.Path.{◌≡◌, refl, ap, ◌∙◌}
 use mathlib.Core.List.{List, [], ◌∷◌, map}
 use Prim.Native.Nat.{ℕ, zero, suc, ◌+◌, ◌<◌, ◌≤◌}
 use native.Mathlib.Numerals.{add-one}
 use native.Mathlib.Omega.{arith}
-use lib.ListN.{length, get_or, set, replicate}
+use lib.ListN.{length, get_or, set}
 
 module _ {A : Type 0} where
   -- the first i records changed by f, and the others as they were
@@ -31,11 +31,3 @@ module _ {A : Type 0} where
 
   pub mapped_all : (f : A → A) (i : ℕ) (xs ys : List A) → ys ≡ mapped f i xs → length xs ≤ i → ys ≡ map f xs
   mapped_all f i xs ys e h = e ∙ past f i xs h
-
-  -- each record the same
-  alike : (x : A) (xs : List A) → map (λ (_ : A). x) xs ≡ replicate (length xs) x
-  alike x [] = refl
-  alike x (y ∷ xs) = ap (λ (r : List A). x ∷ r) (alike x xs)
-
-  pub mapped_alike : (x : A) (i : ℕ) (xs ys : List A) → ys ≡ mapped (λ (_ : A). x) i xs → length xs ≤ i → ys ≡ replicate (length xs) x
-  mapped_alike x i xs ys e h = mapped_all (λ (_ : A). x) i xs ys e h ∙ alike x xs

@@ -15,28 +15,16 @@ use lighting_outputs::{Answer, Output, OutputRequest, Parameters, Request};
 
 // ---- each record of a table
 
-#[tactic(auto, using(crate::proofs::Loops::mapped, crate::proofs::Loops::mapped_alike, crate::proofs::Loops::mapped_more))]
 pub fn fresh_outputs(outputs: &mut [Output], parameters: Parameters)
     ensures { outputs.new ≡ replicate (length outputs.old) (fresh_for parameters) }
 {
-    let fresh = output_fresh::fresh_output(parameters);
-    let mut i: usize = 0;
-    while i < outputs.len() {
-        outputs[i] = fresh;
-        i += 1;
-    }
+    outputs.fill(output_fresh::fresh_output(parameters));
 }
 
-#[tactic(auto, using(crate::proofs::Loops::mapped, crate::proofs::Loops::mapped_alike, crate::proofs::Loops::mapped_more))]
 pub fn fresh_stations(stations: &mut [Station])
     ensures { stations.new ≡ replicate (length stations.old) fresh_station }
 {
-    let fresh = output_fresh::fresh_station();
-    let mut i: usize = 0;
-    while i < stations.len() {
-        stations[i] = fresh;
-        i += 1;
-    }
+    stations.fill(output_fresh::fresh_station());
 }
 
 // Brings one output to a moment, from due moment to due moment. A function of its own, so that the copies of
@@ -46,9 +34,7 @@ fn step_output(outputs: &mut [Output], i: usize, from: u64, to: u64)
     requires { i < length outputs.old }
     ensures { outputs.new ≡ set outputs.old i (advance from to (get_or outputs.old i fresh_output)) }
 {
-    let o = outputs[i];
-    let n = output_passing::three_event_steps(from, to, o);
-    outputs[i] = n;
+    outputs[i] = output_passing::three_event_steps(from, to, outputs[i]);
 }
 
 // Brings one output to a moment. Where nothing falls due on the way, only its burning time changes: by the
@@ -61,19 +47,15 @@ fn advance_output(outputs: &mut [Output], i: usize, from: u64, to: u64)
     let o = outputs[i];
     if output_light::is_moving(o) {
         if output_passing::is_later(to, o) {
-            let n = output_passing::move_on(from, to, o);
-            outputs[i] = n;
-            return;
+            outputs[i] = output_passing::move_on(from, to, o);
+        } else {
+            step_output(outputs, i, from, to);
         }
+    } else if output_passing::is_later(to, o) {
+        outputs[i] = output_passing::rest(from, to, o);
+    } else {
         step_output(outputs, i, from, to);
-        return;
     }
-    if output_passing::is_later(to, o) {
-        let n = output_passing::rest(from, to, o);
-        outputs[i] = n;
-        return;
-    }
-    step_output(outputs, i, from, to);
 }
 
 // Brings every output to a moment. While time stands nothing falls due, and no record is written.
@@ -86,10 +68,8 @@ pub fn advance_outputs(outputs: &mut [Output], from: u64, to: u64)
     if to <= from {
         return;
     }
-    let mut i: usize = 0;
-    while i < outputs.len() {
+    for i in 0..outputs.len() {
         advance_output(outputs, i, from, to);
-        i += 1;
     }
 }
 
@@ -109,11 +89,9 @@ fn serve_output(
     ensures value { result ≡ (served tenant time outputs.old at (Request.ToOutput request)).answer }
     ensures outputs_after { outputs.new ≡ (served tenant time outputs.old at (Request.ToOutput request)).outputs }
 {
-    let o = outputs[at];
-    let done = output_acting::act(tenant, time, o, request);
-    let n = output_acting::outcome_output(done);
-    outputs[at] = n;
-    output_acting::outcome_answer(done)
+    let done = output_acting::act(tenant, time, outputs[at], request);
+    outputs[at] = done.output;
+    done.answer
 }
 
 // Any request, of a tenant or of a service station: one that its fields refuse touches no output.

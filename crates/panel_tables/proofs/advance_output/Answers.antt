@@ -15,14 +15,14 @@ pub returns-then-is_later : goal.returns-then-is_later
 returns-then-is_later c =
     let a = c.args in
     put_back (advance a.from a.to) a.outputs.now a.i _ _ c.requires
-    (advance_later a.from a.to _ _ c.move_on-n.result c.is_later.result c.is_later.ensures c.if-is_later.true
+    (advance_later a.from a.to _ _ c.move_on.result c.is_later.result c.is_later.ensures c.if-is_later.true
     (stretch_moving a.from (a.to - a.from) _ c.is_moving.result c.is_moving.ensures c.if-is_moving.true)
-    c.move_on-n.ensures)
+    c.move_on.ensures)
 
 pub returns-then-is_later-2 : goal.returns-then-is_later-2
 returns-then-is_later-2 c =
     let a = c.args in
     put_back (advance a.from a.to) a.outputs.now a.i _ _ c.requires
-    (advance_later a.from a.to _ _ c.rest-n.result c.is_later-2.result c.is_later-2.ensures c.if-is_later-2.true
+    (advance_later a.from a.to _ _ c.rest.result c.is_later-else-is_moving.result c.is_later-else-is_moving.ensures c.if-is_later-2.true
     (stretch_resting a.from (a.to - a.from) _ c.is_moving.result c.is_moving.ensures c.if-is_moving.false)
-    c.rest-n.ensures)
+    c.rest.ensures)
