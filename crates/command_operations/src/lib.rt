@@ -7,7 +7,7 @@ ghost use Rattle.lighting_outputs.specs.Paper.Operations.{operation_number, no_f
 use lighting_outputs::{Operation, OperationFields, RealField, TimeField};
 
 // The operation's kind, less 10.
-#[tactic(auto, using(lighting_levels::proofs::Choosing::ifs, lighting_outputs::proofs::Laws::operation_number_on), unfolding(lighting_outputs::specs::Paper::Operations::operation_number))]
+#[tactic(auto, unfolding(lighting_outputs::specs::Paper::Operations::operation_number))]
 pub fn operation_number(k: Operation) -> u32
     ensures { result ≡ operation_number k }
 {
@@ -42,9 +42,7 @@ fn level_alone(x: f32) -> OperationFields
 {
     OperationFields {
         level: RealField::Real(x),
-        rate: RealField::NoReal,
-        step: RealField::NoReal,
-        fade: TimeField::NoTime,
+        ..no_fields()
     }
 }
 
@@ -52,40 +50,29 @@ fn step_alone(x: f32) -> OperationFields
     ensures { result ≡ step_alone x }
 {
     OperationFields {
-        level: RealField::NoReal,
-        rate: RealField::NoReal,
         step: RealField::Real(x),
-        fade: TimeField::NoTime,
+        ..no_fields()
     }
 }
 
 // Level, rate, step and fade time, each there or not: also where a setting is used in its place it is not
 // there.
-#[tactic(auto, using(lighting_levels::proofs::Choosing::ifs, lighting_outputs::proofs::Laws::fields_of_on), unfolding(lighting_outputs::specs::Paper::Operations::fields_of))]
+#[tactic(auto, unfolding(lighting_outputs::specs::Paper::Operations::fields_of))]
 pub fn fields_of(k: Operation) -> OperationFields
     ensures { result ≡ fields_of k }
 {
     match k {
-        Operation::Stop => no_fields(),
-        Operation::FadeTo(x) => level_alone(x),
+        Operation::Stop | Operation::StepUp | Operation::StepDown | Operation::Relinquish =>
+            no_fields(),
+        Operation::FadeTo(x) | Operation::RampTo(x) | Operation::Goto(x) => level_alone(x),
+        Operation::StepUpBy(x) | Operation::StepDownBy(x) => step_alone(x),
         Operation::FadeToOver(x, l) => OperationFields {
-            level: RealField::Real(x),
-            rate: RealField::NoReal,
-            step: RealField::NoReal,
             fade: TimeField::Time(l),
+            ..level_alone(x)
         },
-        Operation::RampTo(x) => level_alone(x),
         Operation::RampToAtRate(x, rate) => OperationFields {
-            level: RealField::Real(x),
             rate: RealField::Real(rate),
-            step: RealField::NoReal,
-            fade: TimeField::NoTime,
+            ..level_alone(x)
         },
-        Operation::StepUp => no_fields(),
-        Operation::StepDown => no_fields(),
-        Operation::StepUpBy(x) => step_alone(x),
-        Operation::StepDownBy(x) => step_alone(x),
-        Operation::Goto(x) => level_alone(x),
-        Operation::Relinquish => no_fields(),
     }
 }

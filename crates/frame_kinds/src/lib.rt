@@ -1,8 +1,8 @@
 // The table of kinds: the kind byte fixes the length, and says whether a frame is a call and what it asks.
 #![tactic(auto)]
 
-ghost use Rattle.std.specs.Prelude.{◌≡◌, ◌<◌, ◌≤◌};
-ghost use Rattle.lighting_frames.specs.Paper.Kinds.{call_row, kind_row, kind_length, calls_by, is_call};
+ghost use Rattle.std.specs.Prelude.{◌≡◌};
+ghost use Rattle.lighting_frames.specs.Paper.Kinds.{call_row, kind_row, kind_length, is_call};
 
 use lighting_frames::{Action, Kind, KindRow};
 
@@ -15,10 +15,10 @@ fn call_row(length: u32, action: Action) -> KindRow
     }
 }
 
-// The clock, 01, and the kinds 02 to 05.
+// The row of a kind byte: its length, from which the length test follows, and its kind, from which the action
+// follows. 01 is the clock, 10 to 1A are the commands, and 1B is a command in tags.
 #[tactic(auto, using(crate::proofs::Table::table))]
-fn plain_row(k: u8) -> KindRow
-    requires { k < 6 }
+pub fn kind_row(k: u8) -> KindRow
     ensures { result ≡ kind_row k }
 {
     match k {
@@ -30,20 +30,6 @@ fn plain_row(k: u8) -> KindRow
         0x03 => call_row(14, Action::EmptiesSlot),
         0x04 => call_row(18, Action::WritesProperty),
         0x05 => call_row(14, Action::ReadsProperty),
-        _ => KindRow {
-            length: 0,
-            kind: Kind::NoKind,
-        },
-    }
-}
-
-// The commands, 10 to 1A, and 1B, a command in tags.
-#[tactic(auto, using(crate::proofs::Table::table))]
-fn command_row(k: u8) -> KindRow
-    requires { 0x10 ≤ k }
-    ensures { result ≡ kind_row k }
-{
-    match k {
         0x10 => call_row(17, Action::Stops),
         0x11 => call_row(21, Action::FadesTo),
         0x12 => call_row(25, Action::FadesToOver),
@@ -63,48 +49,18 @@ fn command_row(k: u8) -> KindRow
     }
 }
 
-// The row of a kind byte: its length, from which the length test follows, and its kind, from which the action
-// follows.
-#[tactic(auto, using(crate::proofs::Table::table))]
-pub fn kind_row(k: u8) -> KindRow
-    ensures { result ≡ kind_row k }
-{
-    match k {
-        0x01..=0x05 => plain_row(k),
-        0x10..=0x1B => command_row(k),
-        _ => KindRow {
-            length: 0,
-            kind: Kind::NoKind,
-        },
-    }
-}
-
 // In bytes, and 0 for an unknown kind.
 #[tactic(auto, unfolding(lighting_frames::specs::Paper::Kinds::kind_length))]
 pub fn kind_length(k: u8) -> u32
     ensures { result ≡ kind_length k }
 {
-    let row = kind_row(k);
-    row.length
-}
-
-#[tactic(auto, unfolding(lighting_frames::specs::Paper::Kinds::calls_by))]
-fn calls_by(kind: Kind) -> bool
-    ensures { result ≡ calls_by kind }
-{
-    match kind {
-        Kind::NoKind => false,
-        Kind::ClockKind => false,
-        Kind::CallKind(_) => true,
-    }
+    kind_row(k).length
 }
 
 // Any known kind but a clock goes on with station, number, time and output.
-#[tactic(auto, unfolding(lighting_frames::specs::Paper::Kinds::is_call))]
+#[tactic(auto, unfolding(lighting_frames::specs::Paper::Kinds::is_call, lighting_frames::specs::Paper::Kinds::calls_by))]
 pub fn is_call(k: u8) -> bool
     ensures { result ≡ is_call k }
 {
-    let row = kind_row(k);
-    let kind = row.kind;
-    calls_by(kind)
+    matches!(kind_row(k).kind, Kind::CallKind(_))
 }
