@@ -11,7 +11,7 @@ WITHOUT_CODE = {'Plain', 'Demand'}
 # those that code implements and that unfold everywhere
 OPEN = {'row_of', 'number_of'}
 # what the laws name of the library, by its own modules
-LIBRARY = {'ℕ': 'Prim.Native.Nat', 'Bool': 'mathlib.Core.Bool', 'List': 'mathlib.Core.List', 'Option': 'mathlib.Core.Option'}
+LIBRARY = {'ℕ': 'Prim.Native.Nat', 'Bool': 'mathlib.Core.Bool', 'List': 'mathlib.Core.List', 'Option': 'Rattle.std.specs.Prelude'}
 TOP = '-- Made by tools/laws.py: each definition by clauses, at the variant that a match has found.'
 
 

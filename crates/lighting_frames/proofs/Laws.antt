@@ -12,12 +12,10 @@ use Rattle.lighting_frames.specs.declared.TagField.{TagField}
 use Rattle.lighting_frames.specs.declared.TagFields.{TagFields}
 use Rattle.lighting_frames.specs.declared.TaggedReading.{TaggedReading}
 use Rattle.lighting_outputs.specs.declared.Parameters.{Parameters}
-use Rattle.lighting_outputs.specs.declared.RealField.{RealField}
 use Rattle.lighting_outputs.specs.declared.Request.{Request}
-use Rattle.lighting_outputs.specs.declared.TimeField.{TimeField}
+use Rattle.std.specs.Prelude.{Float, Option}
 use mathlib.Core.Bool.{Bool}
 use mathlib.Core.List.{List}
-use mathlib.Core.Option.{Option}
 
 pub tagged_request_on : (x0 : Parameters) (x1 : TaggedReading) (k : TaggedReading) (r : Request) → x1 ≡ k → r ≡ tagged_request x0 k → r ≡ tagged_request x0 x1
 tagged_request_on x0 x1 k r e p = rw e p
@@ -40,10 +38,10 @@ field_size_on x0 k r e p = rw e p
 pub field_bytes_on : (x0 : ℕ) (x1 : TagField) (k : TagField) (r : List ℕ) → x1 ≡ k → r ≡ field_bytes x0 k → r ≡ field_bytes x0 x1
 field_bytes_on x0 x1 k r e p = rw e p
 
-pub real_tag_on : (x0 : RealField) (k : RealField) (r : TagField) → x0 ≡ k → r ≡ real_tag k → r ≡ real_tag x0
+pub real_tag_on : (x0 : Option Float) (k : Option Float) (r : TagField) → x0 ≡ k → r ≡ real_tag k → r ≡ real_tag x0
 real_tag_on x0 k r e p = rw e p
 
-pub whole_tag_on : (x0 : TimeField) (k : TimeField) (r : TagField) → x0 ≡ k → r ≡ whole_tag k → r ≡ whole_tag x0
+pub whole_tag_on : (x0 : Option ℕ) (k : Option ℕ) (r : TagField) → x0 ≡ k → r ≡ whole_tag k → r ≡ whole_tag x0
 whole_tag_on x0 k r e p = rw e p
 
 pub holds_at_most_on : (x0 : ℕ) (x1 : TagField) (k : TagField) (r : Bool) → x1 ≡ k → r ≡ holds_at_most x0 k → r ≡ holds_at_most x0 x1
@@ -52,7 +50,7 @@ holds_at_most_on x0 x1 k r e p = rw e p
 pub held_by_on : (x0 : TagField) (k : TagField) (r : ℕ) → x0 ≡ k → r ≡ held_by k → r ≡ held_by x0
 held_by_on x0 k r e p = rw e p
 
-pub time_of_on : (x0 : TagField) (k : TagField) (r : TimeField) → x0 ≡ k → r ≡ time_of k → r ≡ time_of x0
+pub time_of_on : (x0 : TagField) (k : TagField) (r : Option ℕ) → x0 ≡ k → r ≡ time_of k → r ≡ time_of x0
 time_of_on x0 k r e p = rw e p
 
 pub fewest_on : (x0 : TagField) (k : TagField) (r : Bool) → x0 ≡ k → r ≡ fewest k → r ≡ fewest x0

@@ -1,4 +1,5 @@
 -- What the reading of a frame leaves in range.
+use Rattle.std.specs.Prelude.{Option, Some, None}
 use mathlib.Core.Path.{◌≡◌, refl}
 use mathlib.Core.Bool.{true}
 use Prim.Native.Nat.{ℕ, ◌+◌, ◌-◌, ◌*◌, ◌^◌, ◌≤◌, ◌<◌, min}
@@ -14,8 +15,6 @@ use Rattle.lighting_outputs.specs.Paper.Properties.{property_of}
 use Rattle.lighting_frames.specs.Paper.Kinds.{kind_row, kind_length, calls_by, is_call}
 use Rattle.lighting_frames.specs.Paper.Frames.{Bytes, Octets, request_of, call_of, called, clock_of, parse_by, parse}
 use Rattle.lighting_outputs.specs.Paper.Requests.{write_level, write_of, empty_of}
-use Rattle.lighting_levels.specs.declared.Level.{Level}
-use Rattle.lighting_levels.specs.declared.Level.TheVariants.{Units, OutOfRange}
 use Rattle.lighting_frames.specs.declared.Action.{Action}
 use Rattle.lighting_frames.specs.declared.Action.TheVariants.{WritesLevel, EmptiesSlot, WritesProperty, ReadsProperty, Stops, FadesTo, FadesToOver, RampsTo, RampsToAtRate, StepsUp, StepsDown, StepsUpBy, StepsDownBy, GoesTo, Relinquishes, CommandsTagged}
 use Rattle.lighting_frames.specs.declared.Kind.{Kind}
@@ -33,10 +32,10 @@ use Rattle.lighting_outputs.proofs.Rules.CommandRanges.{command_request_good}
 use Rattle.lighting_frames.proofs.Tagging.Refused.{tagged_good}
 
 -- KINDS 02 TO 05
-level_good : (p : Parameters) (i : ℕ) (l : Level) → Slot i → ((v : ℕ) → l ≡ Units v → (least_level * min 1 v ≤ v) × (v ≤ greatest_level)) → RequestInRange p (write_level i l)
+level_good : (p : Parameters) (i : ℕ) (l : Option ℕ) → Slot i → ((v : ℕ) → l ≡ Some v → (least_level * min 1 v ≤ v) × (v ≤ greatest_level)) → RequestInRange p (write_level i l)
 unfolding write_level
-level_good p i (Units v) g f = let r = f v refl in (g, record { least = r.0; most = r.1 })
-level_good p i OutOfRange g f = omega arith
+level_good p i (Some v) g f = let r = f v refl in (g, record { least = r.0; most = r.1 })
+level_good p i None g f = omega arith
 
 request_good : (p : Parameters) (action : Action) (b : Bytes) → RequestInRange p (request_of p action b)
 unfolding request_of write_of empty_of when◌then◌else◌

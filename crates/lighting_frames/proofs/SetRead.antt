@@ -2,6 +2,7 @@
 -- property is written; or it is a command, plain or in tags. And the fade time that its bytes carry (§7) is
 -- the one that is written, or the command's. Two sets are compared by it (OutputCount.antt,
 -- ShorterFade.antt).
+use Rattle.std.specs.Prelude.{Option, Some, None}
 use mathlib.Core.Path.{◌≡◌, refl, sym, ap, ◌∙◌}
 use mathlib.Core.Bool.{true}
 use Prim.Native.Nat.{ℕ}
@@ -21,8 +22,6 @@ use Rattle.lighting_outputs.specs.declared.Property.{Property}
 use Rattle.lighting_outputs.specs.declared.Property.TheVariants.{FadeTime}
 use Rattle.lighting_outputs.specs.declared.Request.{Request}
 use Rattle.lighting_outputs.specs.declared.Request.TheVariants.{Refuse}
-use Rattle.lighting_outputs.specs.declared.TimeField.{TimeField}
-use Rattle.lighting_outputs.specs.declared.TimeField.TheVariants.{Time, NoTime}
 use Rattle.lighting_frames.specs.declared.Action.{Action}
 use Rattle.lighting_frames.specs.declared.Action.TheVariants.{WritesLevel, EmptiesSlot, WritesProperty, ReadsProperty, Stops, FadesTo, FadesToOver, RampsTo, RampsToAtRate, StepsUp, StepsDown, StepsUpBy, StepsDownBy, GoesTo, Relinquishes, CommandsTagged}
 use Rattle.lighting_frames.specs.declared.TagFields.{TagFields}
@@ -35,11 +34,11 @@ use Rattle.lighting_frames.proofs.Tagging.Only.{operation_of_lem, at_most, time_
 
 pub data SetRead (action : Action) (b : Bytes) : Type 0 where
   none : {request : Request} → ((p : Parameters) → request_of p action b ≡ request)
-      → fade_time_in b ≡ NoTime → SetRead action b
+      → fade_time_in b ≡ None → SetRead action b
   refuses : {refusal : ℕ} → ((p : Parameters) → request_of p action b ≡ Refuse refusal) → SetRead action b
   writes : (property : Property) (x : ℕ) → ((p : Parameters) → request_of p action b ≡ change_of p property x)
-      → fade_time_in b ≡ (when same FadeTime property then Time x else NoTime) → SetRead action b
-  commands : (operation : Operation) (duration : TimeField)
+      → fade_time_in b ≡ (when same FadeTime property then Some x else None) → SetRead action b
+  commands : (operation : Operation) (duration : Option ℕ)
       → ((p : Parameters) → request_of p action b ≡ command_of p operation duration)
       → fade_time_in b ≡ (fields_of operation).fade → SetRead action b
 

@@ -2,7 +2,7 @@
 // these very types, and so is the code of the crates above.
 #![tactic(auto)]
 
-use lighting_outputs::{Answer, Operation, Request, TimeField};
+use lighting_outputs::{Answer, Operation, Request};
 
 // ---- a command in BACnet's own tagging (§1 of the change requests)
 
@@ -42,7 +42,7 @@ pub enum TaggedReading {
     Unreadable(u8),
     Reads {
         operation: Operation,
-        duration: TimeField,
+        duration: Option<u32>,
     },
 }
 

@@ -6,12 +6,3 @@
 pub const LEAST_LEVEL: u32 = 65_536;
 
 pub const GREATEST_LEVEL: u32 = 6_553_600;
-
-// ---- REALs that a frame carries
-
-// What a REAL is in units.
-#[derive(Clone, Copy)]
-pub enum Level {
-    Units(u32),
-    OutOfRange,
-}

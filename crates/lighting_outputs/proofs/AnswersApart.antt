@@ -1,8 +1,8 @@
 -- The bytes of an answer tell all four cases, and their values, apart.
+use Rattle.std.specs.Prelude.{Some}
 use mathlib.Core.Path.{◌≡◌, refl, sym, ap}
 use mathlib.Core.Logic.{◌≢◌}
 use mathlib.Core.List.{List, [], ◌∷◌}
-use mathlib.Core.Option.{some}
 use Prim.Native.Nat.{ℕ, ◌+◌, ◌*◌, ◌/◌, ◌%◌, ◌^◌, ◌<◌}
 use native.Mathlib.Nat.{div-one, div-div-eq-div-mul}
 use native.Mathlib.Omega.{arith}
@@ -81,7 +81,7 @@ told_apart (Refused m) Absent f g h = other (omega arith) h
 told_apart (Refused m) (Refused n) f g h = let e : m ≡ n = first_byte (other_bytes h) in ap Refused e
 
 -- the value that is printed is the one of the bytes
-pub value_bytes : (a : Answer) (v : ℕ) → value_of a ≡ some v → answer_bytes a ≡ answer_bytes (Value v)
+pub value_bytes : (a : Answer) (v : ℕ) → value_of a ≡ Some v → answer_bytes a ≡ answer_bytes (Value v)
 value_bytes Done v h = let z : ◌≡◌ {A = ℕ} 0 1 = cc in absurd (omega arith)
 value_bytes (Value w) v h = let e : w ≡ v = cc in ap (λ (x : ℕ). answer_bytes (Value x)) e
 value_bytes Absent v h = let z : ◌≡◌ {A = ℕ} 0 1 = cc in absurd (omega arith)

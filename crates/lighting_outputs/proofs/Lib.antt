@@ -1,3 +1,4 @@
+use Rattle.std.specs.Prelude.{Some}
 -- The theorems of this layer, in reading order.
 -- slots: the mask, the winner, levels that stay levels
 pub mod Priorities

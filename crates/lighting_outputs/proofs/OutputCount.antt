@@ -1,5 +1,6 @@
 -- THE NUMBER OF OUTPUTS of a set is read by no definition of this layer (the counts of lent records read it,
 -- and the test of which sets may be started). So two sets that differ in it alone come to the same.
+use Rattle.std.specs.Prelude.{Option, Some, None}
 use mathlib.Core.Path.{◌≡◌, refl, sym, ◌∙◌}
 use mathlib.Core.Bool.{Bool}
 use Prim.Native.Nat.{ℕ}
@@ -16,8 +17,6 @@ use Rattle.lighting_outputs.specs.declared.Activity.TheVariants.{Still, Moving, 
 use Rattle.lighting_outputs.specs.declared.Operation.{Operation}
 use Rattle.lighting_outputs.specs.declared.Output.{Output}
 use Rattle.lighting_outputs.specs.declared.Property.{Property}
-use Rattle.lighting_outputs.specs.declared.TimeField.{TimeField}
-use Rattle.lighting_outputs.specs.declared.TimeField.TheVariants.{Time, NoTime}
 use Rattle.lighting_outputs.proofs.Rules.Rows.{row_reads}
 
 -- the set with another number of outputs
@@ -36,17 +35,17 @@ module _ (p : Parameters) (n : ℕ) where
   unfolding change_of
   change property x = rw (row property)
 
-  time : (field : TimeField) → time_field_refusal other field ≡ time_field_refusal p field
+  time : (field : Option ℕ) → time_field_refusal other field ≡ time_field_refusal p field
   unfolding time_field_refusal
-  time (Time fade) = refl
-  time NoTime = refl
+  time (Some fade) = refl
+  time None = refl
 
-  lasting : (operation : Operation) (field : TimeField) → command_with_duration other operation field ≡ command_with_duration p operation field
+  lasting : (operation : Operation) (field : Option ℕ) → command_with_duration other operation field ≡ command_with_duration p operation field
   unfolding command_with_duration command_lasting
-  lasting operation (Time d) = refl
-  lasting operation NoTime = refl
+  lasting operation (Some d) = refl
+  lasting operation None = refl
 
-  pub command : (operation : Operation) (duration : TimeField) → command_of other operation duration ≡ command_of p operation duration
+  pub command : (operation : Operation) (duration : Option ℕ) → command_of other operation duration ≡ command_of p operation duration
   unfolding command_of command_request_by fields_refusal
   command operation duration = rw (time (fields_of operation).fade, lasting operation duration)
 

@@ -1,4 +1,5 @@
 -- Between a REAL and its pattern nothing is lost, unless it is no number.
+use Rattle.std.specs.Prelude.{Option, Some, None}
 use mathlib.Core.Path.{◌≡◌, refl, sym, ap, ◌∙◌, subst}
 use mathlib.Core.Bool.{Bool, true, false, not, false≢true}
 use Prim.Native.Nat.{ℕ, ◌^◌, ◌<◌}
@@ -6,14 +7,11 @@ use native.Mathlib.Omega.{arith}
 use lib.Dec.{T}
 use lib.Ieee.{Float, nan, inf, fin, binary32, is_nan, fits}
 use lib.Ieee.Bits.{to_bits-of_bits, of_bits-to_bits}
-use Rattle.lighting_levels.specs.declared.Level.{Level}
-use Rattle.lighting_levels.specs.declared.Level.TheVariants.{Units, OutOfRange}
 use Rattle.lighting_levels.proofs.Split.{by_bool}
 use Rattle.lighting_levels.specs.Paper.Level.{real, bits, level_of, amount_of, in_range}
 use Rattle.lighting_outputs.specs.Paper.Rows.{is_amount}
 use Rattle.lighting_outputs.specs.Paper.Answers.{level_refusal}
 use Rattle.lighting_outputs.specs.Paper.Requests.{level_field_refusal, amount_field_refusal}
-use Rattle.lighting_outputs.specs.declared.RealField.TheVariants.{Real}
 
 pub only_nan : (x : Float) → is_nan x ≡ true → x ≡ nan
 unfolding is_nan
@@ -32,12 +30,12 @@ unfolding real bits
 real_kept x h = of_bits-to_bits binary32 x (subst T (sym h) tt)
 
 -- ---- what a command takes is in range, and keeps its bits: a NaN is never taken
-pub record Kept (f : Float → Level) (b : ℕ) (x : Float) : Type 0 where
+pub record Kept (f : Float → Option ℕ) (b : ℕ) (x : Float) : Type 0 where
   pub read : x ≡ real b
   pub written : bits x ≡ b
   pub in_range_lem : in_range (f x) ≡ true
 
-kept : (f : Float → Level) (b : ℕ) → f nan ≡ OutOfRange → b < 2 ^ 32 → in_range (f (real b)) ≡ true → Kept f b (real b)
+kept : (f : Float → Option ℕ) (b : ℕ) → f nan ≡ None → b < 2 ^ 32 → in_range (f (real b)) ≡ true → Kept f b (real b)
 unfolding in_range
 kept f b o h t =
     let none : is_nan (real b) ≡ true → ⊥ =
@@ -46,16 +44,16 @@ kept f b o h t =
     record { read = refl; written = bits_kept b h number; in_range_lem = t }
 
 -- a level, and a rate or step, of a command
-within_range : (l : Level) → level_refusal l ≡ 0 → in_range l ≡ true
+within_range : (l : Option ℕ) → level_refusal l ≡ 0 → in_range l ≡ true
 unfolding in_range
-within_range (Units v) h = refl
-within_range OutOfRange h = absurd (omega arith)
+within_range (Some v) h = refl
+within_range None h = absurd (omega arith)
 
-pub level_field_kept : (b : ℕ) → b < 2 ^ 32 → level_field_refusal (Real (real b)) ≡ 0 → Kept level_of b (real b)
+pub level_field_kept : (b : ℕ) → b < 2 ^ 32 → level_field_refusal (Some (real b)) ≡ 0 → Kept level_of b (real b)
 unfolding level_field_refusal
 level_field_kept b h r = kept level_of b (unfold level_of in refl) h (within_range (level_of (real b)) r)
 
-pub amount_field_kept : (b : ℕ) → b < 2 ^ 32 → amount_field_refusal (Real (real b)) ≡ 0 → Kept amount_of b (real b)
+pub amount_field_kept : (b : ℕ) → b < 2 ^ 32 → amount_field_refusal (Some (real b)) ≡ 0 → Kept amount_of b (real b)
 unfolding amount_field_refusal
 amount_field_kept b h r = kept amount_of b (unfold amount_of in refl) h (within_range (amount_of (real b)) r)
 

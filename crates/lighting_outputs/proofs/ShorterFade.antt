@@ -1,6 +1,7 @@
 -- A SHORTER LONGEST FADE (§7): two sets that differ in it alone. A record that keeps the rules by the shorter
 -- one keeps them by the longer one. A request is read alike by both, unless it takes a fade time between the
 -- two: by the shorter one that is 12.
+use Rattle.std.specs.Prelude.{Option, Some, None}
 use mathlib.Core.Path.{◌≡◌, refl}
 use mathlib.Core.Bool.{Bool, true, false}
 use Prim.Native.Nat.{ℕ, suc, ◌≤◌}
@@ -28,8 +29,6 @@ use Rattle.lighting_outputs.specs.declared.Property.TheVariants.{FadeTime}
 use Rattle.lighting_outputs.specs.declared.Request.{Request}
 use Rattle.lighting_outputs.specs.declared.Request.TheVariants.{Refuse, ToOutput}
 use Rattle.lighting_outputs.specs.declared.Settings.{Settings}
-use Rattle.lighting_outputs.specs.declared.TimeField.{TimeField}
-use Rattle.lighting_outputs.specs.declared.TimeField.TheVariants.{Time, NoTime}
 use Rattle.lighting_levels.proofs.Split.{by_bool, by_le, also_both, also_yes, leb_yes, leb_no, le_of}
 use Rattle.lighting_outputs.proofs.Rules.Rows.{same_is, row_reads}
 
@@ -146,28 +145,28 @@ module _ (p : Parameters) (fade : ℕ) (less : fade ≤ p.fade) where
       (λ e. rw (e, e))
 
   -- the duration reads no fade: by both sets it is taken, or 12
-  lasting : (operation : Operation) (field : TimeField)
+  lasting : (operation : Operation) (field : Option ℕ)
       → command_with_duration shorter operation field ≡ command_with_duration p operation field
   unfolding command_with_duration command_lasting
-  lasting operation (Time d) = refl
-  lasting operation NoTime = refl
+  lasting operation (Some d) = refl
+  lasting operation None = refl
 
-  taken : (between : Bool) → between ≡ true → (operation : Operation) (field : TimeField)
+  taken : (between : Bool) → between ≡ true → (operation : Operation) (field : Option ℕ)
       → Shortened between (command_with_duration p operation field) (Refuse 12)
   unfolding command_with_duration command_lasting when◌then◌else◌
-  taken between h operation (Time d) =
+  taken between h operation (Some d) =
       by_bool (eqb d 0)
       (λ e. rw e (cut h commanded))
       (λ e. rw e (by_bool (within 100 p.duration d) (λ e'. rw e' (cut h commanded)) (λ e'. rw e' refused)))
-  taken between h operation NoTime = cut h commanded
+  taken between h operation None = cut h commanded
 
-  by_fade : (operation : Operation) (duration field : TimeField) (reals : ℕ)
+  by_fade : (operation : Operation) (duration field : Option ℕ) (reals : ℕ)
       → Shortened (time_within (suc fade) p.fade field)
       (command_request_by p (first_refusal reals (time_field_refusal p field)) operation duration)
       (command_request_by shorter (first_refusal reals (time_field_refusal shorter field)) operation duration)
   unfolding time_within command_request_by first_refusal time_field_refusal meets when◌then◌else◌
-  by_fade operation duration NoTime reals = rw (lasting operation duration) (alike refl)
-  by_fade operation duration (Time x) reals =
+  by_fade operation duration None reals = rw (lasting operation duration) (alike refl)
+  by_fade operation duration (Some x) reals =
       by_time x
       (λ none same_test. rw (same_test, lasting operation duration) (alike none))
       (λ high highest. rw (high, highest) (by_bool (eqb reals 0) (λ good. rw good refused) (λ bad. rw (bad, bad) refused)))
@@ -176,7 +175,7 @@ module _ (p : Parameters) (fade : ℕ) (less : fade ≤ p.fade) where
       (λ good. rw good (taken (within (suc fade) p.fade x) carried operation duration))
       (λ bad. rw (bad, bad) refused)))
 
-  pub command : (operation : Operation) (duration : TimeField)
+  pub command : (operation : Operation) (duration : Option ℕ)
       → Shortened (time_within (suc fade) p.fade (fields_of operation).fade)
       (command_of p operation duration)
       (command_of shorter operation duration)

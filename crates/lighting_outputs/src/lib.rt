@@ -113,13 +113,6 @@ pub enum Timer {
     Running { slot: u8, due: u64 },
 }
 
-// When something falls due next: a running duration, a movement or a warning.
-#[derive(Clone, Copy)]
-pub enum Moment {
-    Never,
-    At(u64),
-}
-
 // A command's duration field: so many milliseconds, 0, or FFFFFFFF.
 #[derive(Clone, Copy)]
 pub enum Duration {
@@ -150,26 +143,13 @@ pub struct Command {
     pub duration: Duration,
 }
 
-// A field of an operation, there or not: a REAL as it was written, and a time.
-#[derive(Clone, Copy)]
-pub enum RealField {
-    Real(f32),
-    NoReal,
-}
-
-#[derive(Clone, Copy)]
-pub enum TimeField {
-    Time(u32),
-    NoTime,
-}
-
 // The fields of an operation, from left to right: level, rate, step and fade time.
 #[derive(Clone, Copy)]
 pub struct OperationFields {
-    pub level: RealField,
-    pub rate: RealField,
-    pub step: RealField,
-    pub fade: TimeField,
+    pub level: Option<f32>,
+    pub rate: Option<f32>,
+    pub step: Option<f32>,
+    pub fade: Option<u32>,
 }
 
 // ---- an output, whole

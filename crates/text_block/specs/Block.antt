@@ -1,6 +1,5 @@
 -- What is found of an output after a list, as text: demand 3's values.
 use Rattle.std.specs.Prelude.{List, [], ◌∷◌, ◌++◌, ℕ, zero, suc, ◌+◌}
-use Rattle.std.proofs.Math.Option.{Option, none, some}
 use Rattle.lighting_levels.specs.Paper.Choice.{when◌then◌else◌}
 use Rattle.lighting_frames.specs.Paper.Frames.{Bytes}
 use Rattle.lighting_outputs.specs.Paper.Slots.{is_live, level_at}
@@ -40,8 +39,8 @@ unfoldable pub hex_field : ℕ → Bytes
 hex_field v = text " " ++ hex8 v
 
 abbrev value_field : Option ℕ → Bytes
-value_field none = missing
-value_field (some v) = hex_field v
+value_field None = missing
+value_field (Some v) = hex_field v
 
 unfoldable pub answer_field : Answer → Bytes
 answer_field a = value_field (value_of a)

@@ -1,6 +1,7 @@
 -- WHERE THE FIELDS STAND: the kinds and their lengths, the bytes of station, number, time and output, and of
 -- what follows; and refusals 2 to 5.
 --
+use Rattle.std.specs.Prelude.{Some, None}
 use mathlib.Core.Path.{◌≡◌, refl, ap, ◌∙◌}
 use mathlib.Core.Logic.{◌≢◌}
 use mathlib.Core.Bool.{Bool, true}
@@ -24,7 +25,6 @@ use Rattle.lighting_frames.specs.declared.Kind.TheVariants.{NoKind, ClockKind, C
 use Rattle.lighting_frames.specs.declared.KindRow.{KindRow}
 use Rattle.lighting_outputs.specs.declared.Answer.TheVariants.{Done}
 use Rattle.lighting_outputs.specs.declared.Output.{Output}
-use Rattle.lighting_levels.specs.declared.Level.TheVariants.{Units, OutOfRange}
 use Rattle.lighting_outputs.specs.declared.Request.{Request}
 use Rattle.lighting_outputs.specs.declared.Request.TheVariants.{Refuse, ToOutput}
 use Rattle.lighting_outputs.specs.declared.OutputRequest.TheVariants.{Write, Empty, Read}
@@ -155,11 +155,11 @@ module _ (p : Parameters) (c : ℕ) (b : Bytes) where
 
 -- byte 13 is the priority, and kind 02's REAL follows it
 module _ (p : Parameters) (b : Bytes) where
-  pub write_slot : (i v : ℕ) → Slot i → byte_at b 13 ≡ suc i → level_of (real (big_endian 4 b 14)) ≡ Units v → asked p 2 b ≡ ToOutput (Write i v)
+  pub write_slot : (i v : ℕ) → Slot i → byte_at b 13 ≡ suc i → level_of (real (big_endian 4 b 14)) ≡ Some v → asked p 2 b ≡ ToOutput (Write i v)
   unfolding kind_row request_of write_of write_level when◌then◌else◌
   write_slot i v k n e = let z : suc i - 1 ≡ i = omega arith in rw (n, priority_yes i k, e, z)
 
-  pub write_real : (i : ℕ) → Slot i → byte_at b 13 ≡ suc i → level_of (real (big_endian 4 b 14)) ≡ OutOfRange → asked p 2 b ≡ Refuse 11
+  pub write_real : (i : ℕ) → Slot i → byte_at b 13 ≡ suc i → level_of (real (big_endian 4 b 14)) ≡ None → asked p 2 b ≡ Refuse 11
   unfolding kind_row request_of write_of write_level when◌then◌else◌
   write_real i k n e = rw (n, priority_yes i k, e)
 
@@ -177,7 +177,7 @@ module _ (p : Parameters) (b : Bytes) where
 
   -- and what they do: kinds 02 and 03 are answered Done, and act on slot i alone through `written` and
   -- `slot_relinquished`; then the relay is judged (§3)
-  pub writes_slot : (t : ℕ) (o : Output) (i v : ℕ) → Slot i → byte_at b 13 ≡ suc i → level_of (real (big_endian 4 b 14)) ≡ Units v
+  pub writes_slot : (t : ℕ) (o : Output) (i v : ℕ) → Slot i → byte_at b 13 ≡ suc i → level_of (real (big_endian 4 b 14)) ≡ Some v
       → alone t o (asked p 2 b) ≡ record { output = after_events (written t o i v); answer = Done }
   unfolding acted served done
   writes_slot t o i v k n e = rw (write_slot i v k n e)

@@ -1,10 +1,10 @@
 -- §1, AS AN ENGINEER READS IT: what makes a body in tags 14, for every body; a tagged duration of FFFFFFFF;
 -- property 0F; that every plain command has a form in tags, of kind 1B, and that it is read alike.
+use Rattle.std.specs.Prelude.{Option, Some, None}
 use Rattle.lighting_levels.specs.Paper.Choice.{when◌then◌else◌}
 use mathlib.Core.Path.{◌≡◌, refl, sym, ap, ◌∙◌}
 use mathlib.Core.Logic.{◌≢◌}
 use mathlib.Core.Bool.{Bool, true, false, false≢true}
-use mathlib.Core.Option.{Option, none, some}
 use mathlib.Core.List.{List, ◌∷◌, []}
 use Prim.Native.Nat.{ℕ, zero, suc, ◌+◌, ◌-◌, ◌%◌, ◌≤◌, ◌<◌}
 use native.Mathlib.Nat.{mod-eq_of_lt, div-one}
@@ -40,7 +40,6 @@ use Rattle.lighting_frames.specs.declared.TagField.{TagField}
 use Rattle.lighting_frames.specs.declared.TagFields.{TagFields}
 use Rattle.lighting_frames.specs.declared.TagField.TheVariants.{Holds, Missing}
 use Rattle.lighting_frames.specs.declared.TaggedReading.TheVariants.{Unreadable, Reads}
-use Rattle.lighting_outputs.specs.declared.TimeField.TheVariants.{Time, NoTime}
 use Rattle.lighting_outputs.specs.Paper.Startable.{startable}
 use Rattle.lighting_outputs.proofs.Rules.Startable.{startable_of}
 use Rattle.lighting_levels.proofs.Split.{by_bool, eqb_hit, eqb_miss, eq_of, leb_yes, leb_no}
@@ -55,7 +54,6 @@ use Rattle.lighting_frames.proofs.Tagging.Only.{only_written}
 use Rattle.lighting_frames.proofs.Tagging.PlainInTags.{SameIf, same}
 use Rattle.lighting_frames.proofs.Tagging.InTags.{tagged_asks, sent_as, parse_sent}
 use Rattle.lighting_outputs.proofs.Consequences.Alone.{alone}
-use Rattle.lighting_outputs.specs.declared.TimeField.{TimeField}
 
 -- A BODY THAT IS NOT WELL TAGGED is 14, whatever else is wrong with it
 module _ (body : Bytes) where
@@ -109,10 +107,10 @@ unfolding byte_at
 content_byte body i h = let z : 1 + i ≡ suc i = omega arith in get_or-take (get_or body 0 0) (drop 1 body) i 0 h ∙ get_or-drop 1 body i 0 ∙ ap (λ (n : ℕ). get_or body n 0) z
 
 pub first_no_tag : (body : Bytes) → NoTag (byte_at body 1) → read_body body ≡ Unreadable 14
-first_no_tag body n = unless_tagged body (λ w. omega (arith, w.low, w.sized, none w))
+first_no_tag body n = unless_tagged body (λ w. omega (arith, w.low, w.sized, None w))
   where
-    none : WellTagged body → sizes (listed (body_fields body)) ≡ 0
-    none w = rw (named_listed body) (none_taken 0 tag_octets (take (length_of body) (drop 1 body)) (omega arith) few (rw (content_byte body 0 (omega (arith, w.low))) n))
+    None : WellTagged body → sizes (listed (body_fields body)) ≡ 0
+    None w = rw (named_listed body) (none_taken 0 tag_octets (take (length_of body) (drop 1 body)) (omega arith) few (rw (content_byte body 0 (omega (arith, w.low))) n))
 
 -- an application tag (bit 3 clear), a zero byte among them; and a tag number above 5
 pub application_tag : (body : Bytes) → byte_at body 1 % 16 < 8 → read_body body ≡ Unreadable 14
@@ -140,16 +138,16 @@ module _ (body : Bytes) (eighteen : length body ≡ 18) (tag : byte_at body 1 �
 
 -- A TAGGED DURATION: FFFFFFFF meets 12; missing is what FFFFFFFF is in the plain kind; any other is the plain
 -- kind's
-pub duration_all_ones : (p : Parameters) → startable p ≡ true → (o : Operation) → fields_refusal p (fields_of o) ≡ 0 → tagged_request p (Reads o (Time 0xffff_ffff)) ≡ Refuse 12
+pub duration_all_ones : (p : Parameters) → startable p ≡ true → (o : Operation) → fields_refusal p (fields_of o) ≡ 0 → tagged_request p (Reads o (Some 0xffff_ffff)) ≡ Refuse 12
 unfolding tagged_request command_of command_request_by command_with_duration command_lasting within when◌then◌else◌
 duration_all_ones p allowed o e =
     rw (e, leb_no {a = 0xffff_ffff} {b = p.duration} (omega (arith, (startable_of p allowed).duration)))
 
-pub duration_missing : (p : Parameters) (o : Operation) → tagged_request p (Reads o NoTime) ≡ command_request p o 0xffff_ffff
+pub duration_missing : (p : Parameters) (o : Operation) → tagged_request p (Reads o None) ≡ command_request p o 0xffff_ffff
 unfolding tagged_request command_request plain_duration when◌then◌else◌
 duration_missing p o = refl
 
-pub duration_there : (p : Parameters) (o : Operation) (d : ℕ) → d ≢ 0xffff_ffff → tagged_request p (Reads o (Time d)) ≡ command_request p o d
+pub duration_there : (p : Parameters) (o : Operation) (d : ℕ) → d ≢ 0xffff_ffff → tagged_request p (Reads o (Some d)) ≡ command_request p o d
 unfolding tagged_request command_request plain_duration when◌then◌else◌
 duration_there p o d n = rw (eqb_miss {a = d} {b = 0xffff_ffff} n)
 
@@ -201,8 +199,8 @@ goes_in_tags b action k low high l =
 -- and asks the same, good fields or bad
 request_same : (p : Parameters) (action : Action) (b : Bytes) (f : Option TagFields) → byte_at b 0 ≢ 0x1b → byte_at (framed b f) 0 ≡ 0x1b → SameIf action b f
     → request_of p CommandsTagged (framed b f) ≡ request_of p action b
-request_same p action b none n e s = absurd (n e)
-request_same p action b (some f) n e s = tagged_asks b f s p
+request_same p action b None n e s = absurd (n e)
+request_same p action b (Some f) n e s = tagged_asks b f s p
 
 pub asks_the_same : (p : Parameters) (b : Bytes) (action : Action) → Octets b → (kind_row (byte_at b 0)).kind ≡ CallKind action → 0x10 ≤ byte_at b 0 → byte_at b 0 ≤ 0x1a
     → length b ≡ kind_length (byte_at b 0) → request_of p CommandsTagged (in_tags b) ≡ request_of p action b
@@ -217,7 +215,7 @@ unfolding sent when◌then◌else◌
 read_alike p c b o = parse_sent p c b (sent_as (λ (x : Bytes). true) b o)
 
 -- THE RANGES of a command are judged alike in whatever form it came, plain or in tags
-pub both_forms : (p : Parameters) (operation : Operation) (d : ℕ) (duration : TimeField)
+pub both_forms : (p : Parameters) (operation : Operation) (d : ℕ) (duration : Option ℕ)
     → (command_request p operation d ≡ command_of p operation (plain_duration d))
     × (tagged_request p (Reads operation duration) ≡ command_of p operation duration)
 unfolding command_request tagged_request

@@ -1,5 +1,6 @@
 -- THE WRITER AND THE READER of a command in tags (§1): reading what the writer made gives the command back,
 -- and no other bytes do.
+use Rattle.std.specs.Prelude.{Option, Some, None}
 use Rattle.lighting_levels.specs.Paper.Choice.{when◌then◌else◌}
 use mathlib.Core.Path.{◌≡◌, refl, ap, ap₂}
 use mathlib.Core.Bool.{true}
@@ -13,10 +14,6 @@ use Rattle.lighting_frames.specs.Paper.Tags.{fewest_octets, real_octets, whole_o
 use Rattle.lighting_outputs.specs.Paper.Requests.{plain_duration}
 use Rattle.lighting_outputs.specs.declared.Operation.{Operation}
 use Rattle.lighting_outputs.specs.declared.Operation.TheVariants.{Stop, FadeTo, FadeToOver, RampTo, RampToAtRate, StepUp, StepDown, StepUpBy, StepDownBy, Goto, Relinquish}
-use Rattle.lighting_outputs.specs.declared.RealField.{RealField}
-use Rattle.lighting_outputs.specs.declared.RealField.TheVariants.{Real, NoReal}
-use Rattle.lighting_outputs.specs.declared.TimeField.{TimeField}
-use Rattle.lighting_outputs.specs.declared.TimeField.TheVariants.{Time, NoTime}
 use Rattle.lighting_frames.specs.declared.TagField.{TagField}
 use Rattle.lighting_frames.specs.declared.TagField.TheVariants.{Holds, Missing}
 use Rattle.lighting_frames.specs.declared.TaggedReading.TheVariants.{Reads}
@@ -33,28 +30,28 @@ fewest_fit v h =
     (by_lt v 0x100_0000 (λ l e. rw e (omega arith, omega arith, l)) (λ l e. rw e (omega arith, omega arith, h))))))
 
 -- a time of 32 bits, there or not
-abbrev pub Word : TimeField → Type 0
-Word (Time v) = v < 2 ^ 32
-Word NoTime = Unit {0}
+abbrev pub Word : Option ℕ → Type 0
+Word (Some v) = v < 2 ^ 32
+Word None = Unit {0}
 
 pub lasting_word : (d : ℕ) → d < 2 ^ 32 → Word (plain_duration d)
 unfolding plain_duration when◌then◌else◌
 lasting_word d h = by_bool (eqb d 0xffff_ffff) (λ e. rw e tt) (λ e. rw e h)
 
-pub whole_fit : (t : TimeField) → Word t → Fits whole_octets (whole_tag t)
+pub whole_fit : (t : Option ℕ) → Word t → Fits whole_octets (whole_tag t)
 unfolding whole_tag
-whole_fit (Time v) h = fewest_fit v h
-whole_fit NoTime h = tt
+whole_fit (Some v) h = fewest_fit v h
+whole_fit None h = tt
 
-pub whole_read : (t : TimeField) → time_of (whole_tag t) ≡ t
+pub whole_read : (t : Option ℕ) → time_of (whole_tag t) ≡ t
 unfolding time_of whole_tag
-whole_read (Time v) = refl
-whole_read NoTime = refl
+whole_read (Some v) = refl
+whole_read None = refl
 
-pub whole_fewest : (t : TimeField) → fewest (whole_tag t) ≡ true
+pub whole_fewest : (t : Option ℕ) → fewest (whole_tag t) ≡ true
 unfolding fewest whole_tag
-whole_fewest (Time v) = eqb_hit {a = fewest_octets v} refl
-whole_fewest NoTime = refl
+whole_fewest (Some v) = eqb_hit {a = fewest_octets v} refl
+whole_fewest None = refl
 
 -- HOW LONG: no field is of more than four octets
 fewest_most : (v : ℕ) → fewest_octets v ≤ 4
@@ -64,25 +61,25 @@ fewest_most v =
     (by_lt v 0x1_0000 (λ l e. rw e (omega arith)) (λ l e. rw e
     (by_lt v 0x100_0000 (λ l e. rw e (omega arith)) (λ l e. rw e (omega arith))))))
 
-pub whole_size : (t : TimeField) → field_size (whole_tag t) ≤ 5
+pub whole_size : (t : Option ℕ) → field_size (whole_tag t) ≤ 5
 unfolding field_size whole_tag
-whole_size (Time v) = omega (arith, fewest_most v)
-whole_size NoTime = omega arith
+whole_size (Some v) = omega (arith, fewest_most v)
+whole_size None = omega arith
 
-pub real_size : (x : RealField) → field_size (real_tag x) ≤ 5
+pub real_size : (x : Option Float) → field_size (real_tag x) ≤ 5
 unfolding field_size real_tag
-real_size (Real x) = omega arith
-real_size NoReal = omega arith
+real_size (Some x) = omega arith
+real_size None = omega arith
 
 -- A REAL that its pattern gives back: any but a NaN
-abbrev pub Exact : RealField → Type 0
-Exact (Real x) = (real (bits x) ≡ x) × (bits x < 2 ^ 32)
-Exact NoReal = Unit {0}
+abbrev pub Exact : Option Float → Type 0
+Exact (Some x) = (real (bits x) ≡ x) × (bits x < 2 ^ 32)
+Exact None = Unit {0}
 
-real_fit : (x : RealField) → Exact x → Fits real_octets (real_tag x)
+real_fit : (x : Option Float) → Exact x → Fits real_octets (real_tag x)
 unfolding real_tag
-real_fit (Real x) e = (omega arith, omega arith, e.1)
-real_fit NoReal e = tt
+real_fit (Some x) e = (omega arith, omega arith, e.1)
+real_fit None e = tt
 
 pub record ExactOperation (o : Operation) : Type 0 where
   pub level : Exact (fields_of o).level
@@ -91,7 +88,7 @@ pub record ExactOperation (o : Operation) : Type 0 where
   pub fade : Word (fields_of o).fade
 
 -- WRITTEN, THEN READ: the operation
-operation_read : (o : Operation) (d : TimeField) → ExactOperation o → operation_of (tags_of o d) ≡ o
+operation_read : (o : Operation) (d : Option ℕ) → ExactOperation o → operation_of (tags_of o d) ≡ o
 unfolding operation_of tags_of fields_of operation_number real_tag whole_tag held_by
 operation_read Stop d e = refl
 operation_read (FadeTo x) d e = ap FadeTo e.level.0
@@ -125,19 +122,19 @@ both_same (Holds count value) = refl
 both_same Missing = refl
 
 -- its own fields, and in the fewest octets
-own_written : (o : Operation) (d : TimeField) → own_tags (tags_of o d) (tags_of o d) ≡ true
+own_written : (o : Operation) (d : Option ℕ) → own_tags (tags_of o d) (tags_of o d) ≡ true
 unfolding own_tags tags_of
 own_written o d =
     also_yes (both_same _) (also_yes (both_same _) (also_yes (both_same _) (also_yes (both_same _) (also_yes (both_same _)
     (also_yes (whole_fewest (fields_of o).fade) (whole_fewest d))))))
 
-tags_fit : (o : Operation) (d : TimeField) → ExactOperation o → Word d → AllFit tag_octets (listed (tags_of o d))
+tags_fit : (o : Operation) (d : Option ℕ) → ExactOperation o → Word d → AllFit tag_octets (listed (tags_of o d))
 unfolding tags_of
 tags_fit o d e w =
     ((omega arith, omega arith, omega (arith, number_most o)), (real_fit _ e.level, (real_fit _ e.rate, (real_fit _ e.step, (whole_fit _ e.fade, (whole_fit d w, tt))))))
 
 -- 'a length L from 2 to 17'
-pub sizes_most : (o : Operation) (d : TimeField) → (2 ≤ sizes (listed (tags_of o d))) × (sizes (listed (tags_of o d)) ≤ most_tagged)
+pub sizes_most : (o : Operation) (d : Option ℕ) → (2 ≤ sizes (listed (tags_of o d))) × (sizes (listed (tags_of o d)) ≤ most_tagged)
 unfolding tags_of sizes field_size fields_of real_tag whole_tag
 sizes_most Stop d = let z = whole_size d in (omega arith, omega arith)
 sizes_most (FadeTo x) d = let z = whole_size d in (omega arith, omega arith)
@@ -151,17 +148,17 @@ sizes_most (StepDownBy x) d = let z = whole_size d in (omega arith, omega arith)
 sizes_most (Goto x) d = let z = whole_size d in (omega arith, omega arith)
 sizes_most Relinquish d = let z = whole_size d in (omega arith, omega arith)
 
-operation_known : (o : Operation) (d : TimeField) → holds_at_most 10 (tags_of o d).operation ≡ true
+operation_known : (o : Operation) (d : Option ℕ) → holds_at_most 10 (tags_of o d).operation ≡ true
 unfolding holds_at_most tags_of
 operation_known o d = leb_yes (number_most o)
 
-well_made : (o : Operation) (d : TimeField) → ExactOperation o → Word d → well_tagged (body_bytes (tags_of o d)) ≡ true
+well_made : (o : Operation) (d : Option ℕ) → ExactOperation o → Word d → well_tagged (body_bytes (tags_of o d)) ≡ true
 well_made o d e w =
     let s = sizes_most o d in
     let n = sizes_written (tags_of o d) in
     well_written (tags_of o d) (tags_fit o d e w) (omega arith) (omega arith) (operation_known o d)
 
-fields_made : (o : Operation) (d : TimeField) → ExactOperation o → read_fields (tags_of o d) ≡ Reads o d
+fields_made : (o : Operation) (d : Option ℕ) → ExactOperation o → read_fields (tags_of o d) ≡ Reads o d
 unfolding read_fields when◌then◌else◌
 fields_made o d e = rw (operation_read o d e, duration_read, own_written o d)
   where
@@ -169,6 +166,6 @@ fields_made o d e = rw (operation_read o d e, duration_read, own_written o d)
     duration_read = unfold tags_of in (whole_read d)
 
 -- READING WHAT THE WRITER MADE gives back the operation and its duration
-pub reads_written : (o : Operation) (d : TimeField) → ExactOperation o → Word d → read_body (body_bytes (tags_of o d)) ≡ Reads o d
+pub reads_written : (o : Operation) (d : Option ℕ) → ExactOperation o → Word d → read_body (body_bytes (tags_of o d)) ≡ Reads o d
 unfolding read_body when◌then◌else◌
 reads_written o d e w = rw (well_made o d e w, fields_read (tags_of o d) (tags_fit o d e w)) (fields_made o d e)

@@ -1,10 +1,10 @@
 -- IT ACTS AS THE PLAIN KIND DOES (§1), frame by frame and in lists.
+use Rattle.std.specs.Prelude.{Option, Some, None}
 use Rattle.lighting_levels.specs.Paper.Choice.{when◌then◌else◌}
 use mathlib.Core.Path.{◌≡◌, refl, sym, ap, ap₂, ◌∙◌}
 use mathlib.Core.Logic.{◌≢◌}
 use mathlib.Core.Bool.{Bool, true, false≢true}
 use mathlib.Core.List.{◌∷◌, ◌++◌, []}
-use mathlib.Core.Option.{Option, none, some}
 use Prim.Native.Nat.{ℕ, zero, suc, ◌+◌, ◌-◌, ◌≤◌, ◌<◌}
 use native.Mathlib.Omega.{arith}
 use lib.ListN.{length, get_or, take, drop, replicate, length-append, length-take, length-drop, length-replicate, get_or-append, take-append-drop}
@@ -30,7 +30,7 @@ use Rattle.lighting_frames.proofs.Tagging.PlainInTags.{plain_body, Same, SameIf,
 -- A FRAME IN TAGS, of a plain command's frame b and its fields f
 module _ {action : Action} (b : Bytes) (f : TagFields) (s : Same action b f) where
   abbrev tagged : Bytes
-  tagged = framed b (some f)
+  tagged = framed b (Some f)
 
   abbrev common : Bytes
   common = take 12 (drop 1 b)
@@ -103,12 +103,12 @@ module _ {action : Action} (b : Bytes) (f : TagFields) (s : Same action b f) whe
 -- HOW A FRAME WAS SENT: as it is, or in tags
 pub data SentAs (b : Bytes) : Bytes → Type 0 where
   itself : SentAs b b
-  as_tags : (action : Action) (f : TagFields) → (kind_row (byte_at b 0)).kind ≡ CallKind action → length b ≡ kind_length (byte_at b 0) → Same action b f → SentAs b (framed b (some f))
+  as_tags : (action : Action) (f : TagFields) → (kind_row (byte_at b 0)).kind ≡ CallKind action → length b ≡ kind_length (byte_at b 0) → Same action b f → SentAs b (framed b (Some f))
 
 framed_as : (action : Action) (b : Bytes) (f : Option TagFields) → (kind_row (byte_at b 0)).kind ≡ CallKind action → length b ≡ kind_length (byte_at b 0)
     → SameIf action b f → SentAs b (framed b f)
-framed_as action b none k l s = itself
-framed_as action b (some f) k l s = as_tags action f k l s
+framed_as action b None k l s = itself
+framed_as action b (Some f) k l s = as_tags action f k l s
 
 framed_by_as : (kind : Kind) (b : Bytes) → Octets b → (kind_row (byte_at b 0)).kind ≡ kind → length b ≡ kind_length (byte_at b 0) → SentAs b (framed_by kind b)
 framed_by_as NoKind b o k l = itself

@@ -1,5 +1,6 @@
 -- EVERY COMMAND THAT THE PANEL KEEPS (§1): reading what the writer makes of it gives it back, for every
 -- command that a string of bytes asks for, in whatever form it came.
+use Rattle.std.specs.Prelude.{Option, Some, None, Float}
 use Rattle.lighting_levels.specs.Paper.Choice.{when◌then◌else◌}
 use mathlib.Core.Path.{◌≡◌, refl, ap}
 use mathlib.Core.Bool.{true}
@@ -19,17 +20,11 @@ use Rattle.lighting_outputs.specs.Paper.Requests.{level_field_refusal, amount_fi
 use Rattle.lighting_frames.specs.declared.Action.{Action}
 use Rattle.lighting_frames.specs.declared.Action.TheVariants.{WritesLevel, EmptiesSlot, WritesProperty, ReadsProperty, Stops, FadesTo, FadesToOver, RampsTo, RampsToAtRate, StepsUp, StepsDown, StepsUpBy, StepsDownBy, GoesTo, Relinquishes, CommandsTagged}
 use Rattle.lighting_outputs.specs.declared.Command.{Command}
-use Rattle.lighting_levels.specs.declared.Level.{Level}
-use Rattle.lighting_levels.specs.declared.Level.TheVariants.{Units, OutOfRange}
 use Rattle.lighting_outputs.specs.declared.Operation.{Operation}
 use Rattle.lighting_outputs.specs.declared.Operation.TheVariants.{Stop, FadeTo, FadeToOver, RampTo, RampToAtRate, StepUp, StepDown, StepUpBy, StepDownBy, Goto, Relinquish}
 use Rattle.lighting_outputs.specs.declared.Property.{Property}
 use Rattle.lighting_outputs.specs.declared.Range.{Range}
 use Rattle.lighting_outputs.specs.declared.Range.TheVariants.{Percent, Limit, Amount, Whole, Priority, ReadOnly}
-use Rattle.lighting_outputs.specs.declared.RealField.{RealField}
-use Rattle.lighting_outputs.specs.declared.RealField.TheVariants.{Real, NoReal}
-use Rattle.lighting_outputs.specs.declared.TimeField.{TimeField}
-use Rattle.lighting_outputs.specs.declared.TimeField.TheVariants.{Time, NoTime}
 use Rattle.lighting_frames.specs.declared.TagField.{TagField}
 use Rattle.lighting_frames.specs.declared.TagField.TheVariants.{Holds, Missing}
 use Rattle.lighting_frames.specs.declared.TagFields.{TagFields}
@@ -47,15 +42,15 @@ use Rattle.lighting_frames.proofs.Tagging.Only.{IsReal, IsTime, held_word, at_mo
 
 -- AN OPERATION AS FRAMES BRING IT: each REAL has been read from a pattern of 32 bits, and a fade time has 32
 -- bits
-data Patterned : RealField → Type 0 where
-  pattern : (v : ℕ) → v < 2 ^ 32 → Patterned (Real (real v))
-  none : Patterned NoReal
+data Patterned : Option Float → Type 0 where
+  pattern : (v : ℕ) → v < 2 ^ 32 → Patterned (Some (real v))
+  none : Patterned None
 
-level_exact : {x : RealField} → Patterned x → level_field_refusal x ≡ 0 → Exact x
+level_exact : {x : Option Float} → Patterned x → level_field_refusal x ≡ 0 → Exact x
 level_exact (pattern v h) r = let k = (level_field_kept v h r).written in (ap real k, rw k h)
 level_exact none r = tt
 
-amount_exact : {x : RealField} → Patterned x → amount_field_refusal x ≡ 0 → Exact x
+amount_exact : {x : Option Float} → Patterned x → amount_field_refusal x ≡ 0 → Exact x
 amount_exact (pattern v h) r = let k = (amount_field_kept v h r).written in (ap real k, rw k h)
 amount_exact none r = tt
 
@@ -80,7 +75,7 @@ abbrev AsksNoCommand : Request → Type 0
 AsksNoCommand r = (k : Command) → r ≡ ToOutput (Commands k) → ◌≡◌ {A = ℕ} 0 1
 
 data Asks (p : Parameters) : Request → Type 0 where
-  command : (o : Operation) (duration : TimeField) → Brought o → Word duration → Asks p (command_of p o duration)
+  command : (o : Operation) (duration : Option ℕ) → Brought o → Word duration → Asks p (command_of p o duration)
   nothing : {r : Request} → AsksNoCommand r → Asks p r
 
 -- kinds 02 to 05 ask for none, and neither does what is refused
@@ -90,10 +85,10 @@ refused_none r = λ k h. cc
 reading_none : (n : Property) → AsksNoCommand (ToOutput (Read n))
 reading_none n = λ k h. cc
 
-level_none : (i : ℕ) (l : Level) → AsksNoCommand (write_level i l)
+level_none : (i : ℕ) (l : Option ℕ) → AsksNoCommand (write_level i l)
 unfolding write_level
-level_none i (Units v) = λ k h. cc
-level_none i OutOfRange = refused_none _
+level_none i (Some v) = λ k h. cc
+level_none i None = refused_none _
 
 write_none : (n x : ℕ) → AsksNoCommand (write_of n x)
 unfolding write_of when◌then◌else◌
@@ -103,10 +98,10 @@ empty_none : (n : ℕ) → AsksNoCommand (empty_of n)
 unfolding empty_of when◌then◌else◌
 empty_none n = by_bool (is_priority n) (λ e. rw e (λ k h. cc)) (λ e. rw e (refused_none _))
 
-to_none : (n : Property) (l : Level) → AsksNoCommand (change_to n l)
+to_none : (n : Property) (l : Option ℕ) → AsksNoCommand (change_to n l)
 unfolding change_to
-to_none n (Units v) = λ k h. cc
-to_none n OutOfRange = refused_none _
+to_none n (Some v) = λ k h. cc
+to_none n None = refused_none _
 
 by_none : (range : Range) (n : Property) (x : ℕ) → AsksNoCommand (change_by range n x)
 unfolding change_by when◌then◌else◌
@@ -128,13 +123,13 @@ module _ (p : Parameters) (b : Bytes) (octets : Octets b) where
   asks_plain o at k = command o (plain_duration (big_endian 4 b at)) k (lasting_word (big_endian 4 b at) (word b octets at))
 
 -- and the form in tags
-patterned : (x : RealField) (v : ℕ) → v < 2 ^ 32 → IsReal (real v) x → Patterned x
-patterned (Real x) v h e = rw e (pattern v h)
-patterned NoReal v h e = none
+patterned : (x : Option Float) (v : ℕ) → v < 2 ^ 32 → IsReal (real v) x → Patterned x
+patterned (Some x) v h e = rw e (pattern v h)
+patterned None v h e = none
 
-timed : (t : TimeField) (v : ℕ) → v < 2 ^ 32 → IsTime v t → Word t
-timed (Time w) v h e = rw e h
-timed NoTime v h e = tt
+timed : (t : Option ℕ) (v : ℕ) → v < 2 ^ 32 → IsTime v t → Word t
+timed (Some w) v h e = rw e h
+timed None v h e = tt
 
 time_word_lem : (f : TagField) → Fits whole_octets f → Word (time_of f)
 unfolding time_of held_by
@@ -190,7 +185,7 @@ unfolding body_bytes tagged_body
 writers_bytes k = refl
 
 -- READ AGAIN: the writer's form of what was asked asks for it
-tags_taken : (p : Parameters) (o : Operation) (duration : TimeField) (k : Command) → Taken p o duration k → command_tags k ≡ tags_of o duration
+tags_taken : (p : Parameters) (o : Operation) (duration : Option ℕ) (k : Command) → Taken p o duration k → command_tags k ≡ tags_of o duration
 unfolding command_tags
 tags_taken p o duration k t = rw (t.operation, t.lasting)
 

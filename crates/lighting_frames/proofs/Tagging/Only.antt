@@ -1,5 +1,6 @@
 -- NO OTHER BYTES: whatever 18 bytes ask for a command in tags are the ones that the writer makes of it (§1).
 -- And what is asked is given back: so each command that the panel keeps has one form in tags.
+use Rattle.std.specs.Prelude.{Option, Some, None}
 use Rattle.lighting_levels.specs.Paper.Choice.{when◌then◌else◌}
 use mathlib.Core.Path.{◌≡◌, refl, sym, ap, ap₂, ◌∙◌}
 use mathlib.Core.Bool.{true, false≢true}
@@ -18,10 +19,6 @@ use Rattle.lighting_outputs.specs.Paper.Requests.{level_field_refusal, amount_fi
 use Rattle.lighting_outputs.specs.declared.Command.{Command}
 use Rattle.lighting_outputs.specs.declared.Operation.{Operation}
 use Rattle.lighting_outputs.specs.declared.Operation.TheVariants.{Stop}
-use Rattle.lighting_outputs.specs.declared.RealField.{RealField}
-use Rattle.lighting_outputs.specs.declared.RealField.TheVariants.{Real, NoReal}
-use Rattle.lighting_outputs.specs.declared.TimeField.{TimeField}
-use Rattle.lighting_outputs.specs.declared.TimeField.TheVariants.{Time, NoTime}
 use Rattle.lighting_frames.specs.declared.TagField.{TagField}
 use Rattle.lighting_frames.specs.declared.TagField.TheVariants.{Holds, Missing}
 use Rattle.lighting_frames.specs.declared.TagFields.{TagFields}
@@ -35,13 +32,13 @@ use Rattle.lighting_frames.proofs.Tagging.Bodies.{well_tagged_lem, fields_fit, o
 
 -- THE OPERATION of fields: its number is the one that tag 0 holds, and each of its own fields is the one of
 -- its tag
-abbrev pub IsReal : Float → RealField → Type 0
-IsReal x (Real y) = y ≡ x
-IsReal x NoReal = Unit {0}
+abbrev pub IsReal : Float → Option Float → Type 0
+IsReal x (Some y) = y ≡ x
+IsReal x None = Unit {0}
 
-abbrev pub IsTime : ℕ → TimeField → Type 0
-IsTime v (Time w) = w ≡ v
-IsTime v NoTime = Unit {0}
+abbrev pub IsTime : ℕ → Option ℕ → Type 0
+IsTime v (Some w) = w ≡ v
+IsTime v None = Unit {0}
 
 pub record Carries (x y z : Float) (v n : ℕ) (o : Operation) : Type 0 where
   pub number : operation_number o ≡ n
@@ -112,17 +109,17 @@ operation_of_lem f h =
     (each_at (Carries level rate step fade) Stop 0 (held_by f.operation) (operations level rate step fade) (carried level rate step fade) (omega arith))
 
 -- A REAL that was read and is in range is spelled as it was
-abbrev Spelled : RealField → ℕ → Type 0
-Spelled (Real x) v = bits x ≡ v
-Spelled NoReal v = Unit {0}
+abbrev Spelled : Option Float → ℕ → Type 0
+Spelled (Some x) v = bits x ≡ v
+Spelled None v = Unit {0}
 
-level_spelled : (x : RealField) (v : ℕ) → v < 2 ^ 32 → IsReal (real v) x → level_field_refusal x ≡ 0 → Spelled x v
-level_spelled (Real x) v h e r = rw e (level_field_kept v h (rw e at r)).written
-level_spelled NoReal v h e r = tt
+level_spelled : (x : Option Float) (v : ℕ) → v < 2 ^ 32 → IsReal (real v) x → level_field_refusal x ≡ 0 → Spelled x v
+level_spelled (Some x) v h e r = rw e (level_field_kept v h (rw e at r)).written
+level_spelled None v h e r = tt
 
-amount_spelled : (x : RealField) (v : ℕ) → v < 2 ^ 32 → IsReal (real v) x → amount_field_refusal x ≡ 0 → Spelled x v
-amount_spelled (Real x) v h e r = rw e (amount_field_kept v h (rw e at r)).written
-amount_spelled NoReal v h e r = tt
+amount_spelled : (x : Option Float) (v : ℕ) → v < 2 ^ 32 → IsReal (real v) x → amount_field_refusal x ≡ 0 → Spelled x v
+amount_spelled (Some x) v h e r = rw e (amount_field_kept v h (rw e at r)).written
+amount_spelled None v h e r = tt
 
 pub held_word : (allowed : OctetRange) (f : TagField) → allowed.most ≤ 4 → Fits allowed f → held_by f < 2 ^ 32
 unfolding held_by
@@ -130,19 +127,19 @@ held_word allowed (Holds count value) m h =
     omega (arith, h.2, pow-le-pow_right {n = 256} (omega arith) {i = count} {j = 4} (omega (arith, h.1)))
 held_word allowed Missing m h = omega arith
 
-real_same : (x : RealField) (f : TagField) → Fits real_octets f → Spelled x (held_by f) → both_or_neither (real_tag x) f ≡ true → real_tag x ≡ f
+real_same : (x : Option Float) (f : TagField) → Fits real_octets f → Spelled x (held_by f) → both_or_neither (real_tag x) f ≡ true → real_tag x ≡ f
 unfolding real_tag both_or_neither held_by
-real_same (Real x) (Holds count value) h s b = ap₂ Holds (omega (arith, h.0, h.1)) s
-real_same (Real x) Missing h s b = absurd (false≢true b)
-real_same NoReal (Holds count value) h s b = absurd (false≢true b)
-real_same NoReal Missing h s b = refl
+real_same (Some x) (Holds count value) h s b = ap₂ Holds (omega (arith, h.0, h.1)) s
+real_same (Some x) Missing h s b = absurd (false≢true b)
+real_same None (Holds count value) h s b = absurd (false≢true b)
+real_same None Missing h s b = refl
 
-pub time_same : (t : TimeField) (f : TagField) → IsTime (held_by f) t → fewest f ≡ true → both_or_neither (whole_tag t) f ≡ true → whole_tag t ≡ f
+pub time_same : (t : Option ℕ) (f : TagField) → IsTime (held_by f) t → fewest f ≡ true → both_or_neither (whole_tag t) f ≡ true → whole_tag t ≡ f
 unfolding whole_tag both_or_neither held_by fewest
-time_same (Time v) (Holds count value) e q b = rw e (ap (λ (n : ℕ). Holds n value) (sym (eq_of q)))
-time_same (Time v) Missing e q b = absurd (false≢true b)
-time_same NoTime (Holds count value) e q b = absurd (false≢true b)
-time_same NoTime Missing e q b = refl
+time_same (Some v) (Holds count value) e q b = rw e (ap (λ (n : ℕ). Holds n value) (sym (eq_of q)))
+time_same (Some v) Missing e q b = absurd (false≢true b)
+time_same None (Holds count value) e q b = absurd (false≢true b)
+time_same None Missing e q b = refl
 
 duration_same : (f : TagField) → fewest f ≡ true → whole_tag (time_of f) ≡ f
 unfolding whole_tag time_of fewest

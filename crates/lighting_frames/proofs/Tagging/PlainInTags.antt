@@ -1,10 +1,10 @@
 -- A PLAIN COMMAND'S FIELDS IN TAGS (§1): what they ask is what its frame asks, good fields or bad; and they
 -- hold every byte of it.
+use Rattle.std.specs.Prelude.{Option, Some, None}
 use Rattle.lighting_levels.specs.Paper.Choice.{when◌then◌else◌}
 use mathlib.Core.Path.{◌≡◌, refl, sym, ap, ap₂, ◌∙◌}
 use mathlib.Core.Bool.{true}
 use mathlib.Core.List.{◌++◌, append-nil, []}
-use mathlib.Core.Option.{Option, none, some}
 use Prim.Native.Nat.{ℕ, ◌+◌, ◌≤◌}
 use native.Mathlib.Omega.{arith}
 use lib.ListN.{length, drop, take-append-drop}
@@ -22,8 +22,6 @@ use Rattle.lighting_frames.specs.declared.Action.{Action}
 use Rattle.lighting_frames.specs.declared.Action.TheVariants.{WritesLevel, EmptiesSlot, WritesProperty, ReadsProperty, Stops, FadesTo, FadesToOver, RampsTo, RampsToAtRate, StepsUp, StepsDown, StepsUpBy, StepsDownBy, GoesTo, Relinquishes, CommandsTagged}
 use Rattle.lighting_outputs.specs.declared.Operation.{Operation}
 use Rattle.lighting_outputs.specs.declared.Operation.TheVariants.{Stop, FadeTo, FadeToOver, RampTo, RampToAtRate, StepUp, StepDown, StepUpBy, StepDownBy, Goto, Relinquish}
-use Rattle.lighting_outputs.specs.declared.TimeField.{TimeField}
-use Rattle.lighting_outputs.specs.declared.TimeField.TheVariants.{Time, NoTime}
 use Rattle.lighting_frames.specs.declared.TagField.{TagField}
 use Rattle.lighting_frames.specs.declared.TagField.TheVariants.{Holds, Missing}
 use Rattle.lighting_frames.specs.declared.TagFields.{TagFields}
@@ -59,8 +57,8 @@ pub record Same (action : Action) (b : Bytes) (f : TagFields) : Type 0 where
   pub tail : drop 13 b ≡ plain_body f
 
 abbrev pub SameIf : Action → Bytes → Option TagFields → Type 0
-SameIf action b none = Unit {0}
-SameIf action b (some f) = Same action b f
+SameIf action b None = Unit {0}
+SameIf action b (Some f) = Same action b f
 
 -- its words
 duration_spelled : (d : ℕ) → duration_word (whole_tag (plain_duration d)) ≡ octets 4 d
@@ -91,15 +89,15 @@ module _ (b : Bytes) (o : Octets b) where
       (next_word 17 (omega arith) ∙ ap (λ (l : Bytes). octets 4 (big_endian 4 b 17) ++ l) (last_word 21 h))
 
   -- A COMMAND: of its operation, its fields and its words
-  module _ (number : ℕ) (level rate step : TagField) (fade : TimeField) (at : ℕ) (operation : Operation) where
+  module _ (number : ℕ) (level rate step : TagField) (fade : Option ℕ) (at : ℕ) (operation : Operation) where
     abbrev fields : TagFields
     fields = plain_fields number level rate step fade (big_endian 4 b at)
 
     module _ (named : operation_of fields ≡ operation)
-        (levels : both_or_neither (tags_of operation NoTime).level level ≡ true)
-        (rates : both_or_neither (tags_of operation NoTime).rate rate ≡ true)
-        (steps : both_or_neither (tags_of operation NoTime).step step ≡ true)
-        (fades : both_or_neither (tags_of operation NoTime).fade (whole_tag fade) ≡ true) where
+        (levels : both_or_neither (tags_of operation None).level level ≡ true)
+        (rates : both_or_neither (tags_of operation None).rate rate ≡ true)
+        (steps : both_or_neither (tags_of operation None).step step ≡ true)
+        (fades : both_or_neither (tags_of operation None).fade (whole_tag fade) ≡ true) where
       fields_own : own_tags (tags_of (operation_of fields) (time_of fields.duration)) fields ≡ true
       unfolding own_tags tags_of both_or_neither when◌then◌else◌
       fields_own =
@@ -160,69 +158,69 @@ module _ (b : Bytes) (o : Octets b) where
   same WritesProperty k l = tt
   same ReadsProperty k l = tt
   same Stops k l =
-      fields_same b o 0 Missing Missing Missing NoTime 13 Stop Stops (omega arith) (omega arith) tt tt tt tt (omega arith)
-      (fields_own b o 0 Missing Missing Missing NoTime 13 Stop refl refl refl refl refl)
-      (fields_asked b o 0 Missing Missing Missing NoTime 13 Stop refl refl refl refl refl)
+      fields_same b o 0 Missing Missing Missing None 13 Stop Stops (omega arith) (omega arith) tt tt tt tt (omega arith)
+      (fields_own b o 0 Missing Missing Missing None 13 Stop refl refl refl refl refl)
+      (fields_asked b o 0 Missing Missing Missing None 13 Stop refl refl refl refl refl)
       k
       (last_word b o 13 l)
   same FadesTo k l =
-      fields_same b o 1 real13 Missing Missing NoTime 17 (FadeTo (real word13)) FadesTo (omega arith) (omega arith) (held 13) tt tt tt (omega arith)
-      (fields_own b o 1 real13 Missing Missing NoTime 17 (FadeTo (real word13)) refl refl refl refl refl)
-      (fields_asked b o 1 real13 Missing Missing NoTime 17 (FadeTo (real word13)) refl refl refl refl refl)
+      fields_same b o 1 real13 Missing Missing None 17 (FadeTo (real word13)) FadesTo (omega arith) (omega arith) (held 13) tt tt tt (omega arith)
+      (fields_own b o 1 real13 Missing Missing None 17 (FadeTo (real word13)) refl refl refl refl refl)
+      (fields_asked b o 1 real13 Missing Missing None 17 (FadeTo (real word13)) refl refl refl refl refl)
       k
       (two_words b o l)
   same FadesToOver k l =
-      fields_same b o 2 real13 Missing Missing (Time word17) 21 (FadeToOver (real word13) word17) FadesToOver (omega arith) (omega arith) (held 13) tt tt (word b o 17) (omega (arith, whole_size (Time word17)))
-      (fields_own b o 2 real13 Missing Missing (Time word17) 21 (FadeToOver (real word13) word17) refl refl refl refl refl)
-      (fields_asked b o 2 real13 Missing Missing (Time word17) 21 (FadeToOver (real word13) word17) refl refl refl refl refl)
+      fields_same b o 2 real13 Missing Missing (Some word17) 21 (FadeToOver (real word13) word17) FadesToOver (omega arith) (omega arith) (held 13) tt tt (word b o 17) (omega (arith, whole_size (Some word17)))
+      (fields_own b o 2 real13 Missing Missing (Some word17) 21 (FadeToOver (real word13) word17) refl refl refl refl refl)
+      (fields_asked b o 2 real13 Missing Missing (Some word17) 21 (FadeToOver (real word13) word17) refl refl refl refl refl)
       k
       (three_words b o l)
   same RampsTo k l =
-      fields_same b o 3 real13 Missing Missing NoTime 17 (RampTo (real word13)) RampsTo (omega arith) (omega arith) (held 13) tt tt tt (omega arith)
-      (fields_own b o 3 real13 Missing Missing NoTime 17 (RampTo (real word13)) refl refl refl refl refl)
-      (fields_asked b o 3 real13 Missing Missing NoTime 17 (RampTo (real word13)) refl refl refl refl refl)
+      fields_same b o 3 real13 Missing Missing None 17 (RampTo (real word13)) RampsTo (omega arith) (omega arith) (held 13) tt tt tt (omega arith)
+      (fields_own b o 3 real13 Missing Missing None 17 (RampTo (real word13)) refl refl refl refl refl)
+      (fields_asked b o 3 real13 Missing Missing None 17 (RampTo (real word13)) refl refl refl refl refl)
       k
       (two_words b o l)
   same RampsToAtRate k l =
-      fields_same b o 4 real13 real17 Missing NoTime 21 (RampToAtRate (real word13) (real word17)) RampsToAtRate (omega arith) (omega arith) (held 13) (held 17) tt tt (omega arith)
-      (fields_own b o 4 real13 real17 Missing NoTime 21 (RampToAtRate (real word13) (real word17)) refl refl refl refl refl)
-      (fields_asked b o 4 real13 real17 Missing NoTime 21 (RampToAtRate (real word13) (real word17)) refl refl refl refl refl)
+      fields_same b o 4 real13 real17 Missing None 21 (RampToAtRate (real word13) (real word17)) RampsToAtRate (omega arith) (omega arith) (held 13) (held 17) tt tt (omega arith)
+      (fields_own b o 4 real13 real17 Missing None 21 (RampToAtRate (real word13) (real word17)) refl refl refl refl refl)
+      (fields_asked b o 4 real13 real17 Missing None 21 (RampToAtRate (real word13) (real word17)) refl refl refl refl refl)
       k
       (three_words b o l)
   same StepsUp k l =
-      fields_same b o 5 Missing Missing Missing NoTime 13 StepUp StepsUp (omega arith) (omega arith) tt tt tt tt (omega arith)
-      (fields_own b o 5 Missing Missing Missing NoTime 13 StepUp refl refl refl refl refl)
-      (fields_asked b o 5 Missing Missing Missing NoTime 13 StepUp refl refl refl refl refl)
+      fields_same b o 5 Missing Missing Missing None 13 StepUp StepsUp (omega arith) (omega arith) tt tt tt tt (omega arith)
+      (fields_own b o 5 Missing Missing Missing None 13 StepUp refl refl refl refl refl)
+      (fields_asked b o 5 Missing Missing Missing None 13 StepUp refl refl refl refl refl)
       k
       (last_word b o 13 l)
   same StepsDown k l =
-      fields_same b o 6 Missing Missing Missing NoTime 13 StepDown StepsDown (omega arith) (omega arith) tt tt tt tt (omega arith)
-      (fields_own b o 6 Missing Missing Missing NoTime 13 StepDown refl refl refl refl refl)
-      (fields_asked b o 6 Missing Missing Missing NoTime 13 StepDown refl refl refl refl refl)
+      fields_same b o 6 Missing Missing Missing None 13 StepDown StepsDown (omega arith) (omega arith) tt tt tt tt (omega arith)
+      (fields_own b o 6 Missing Missing Missing None 13 StepDown refl refl refl refl refl)
+      (fields_asked b o 6 Missing Missing Missing None 13 StepDown refl refl refl refl refl)
       k
       (last_word b o 13 l)
   same StepsUpBy k l =
-      fields_same b o 7 Missing Missing real13 NoTime 17 (StepUpBy (real word13)) StepsUpBy (omega arith) (omega arith) tt tt (held 13) tt (omega arith)
-      (fields_own b o 7 Missing Missing real13 NoTime 17 (StepUpBy (real word13)) refl refl refl refl refl)
-      (fields_asked b o 7 Missing Missing real13 NoTime 17 (StepUpBy (real word13)) refl refl refl refl refl)
+      fields_same b o 7 Missing Missing real13 None 17 (StepUpBy (real word13)) StepsUpBy (omega arith) (omega arith) tt tt (held 13) tt (omega arith)
+      (fields_own b o 7 Missing Missing real13 None 17 (StepUpBy (real word13)) refl refl refl refl refl)
+      (fields_asked b o 7 Missing Missing real13 None 17 (StepUpBy (real word13)) refl refl refl refl refl)
       k
       (two_words b o l)
   same StepsDownBy k l =
-      fields_same b o 8 Missing Missing real13 NoTime 17 (StepDownBy (real word13)) StepsDownBy (omega arith) (omega arith) tt tt (held 13) tt (omega arith)
-      (fields_own b o 8 Missing Missing real13 NoTime 17 (StepDownBy (real word13)) refl refl refl refl refl)
-      (fields_asked b o 8 Missing Missing real13 NoTime 17 (StepDownBy (real word13)) refl refl refl refl refl)
+      fields_same b o 8 Missing Missing real13 None 17 (StepDownBy (real word13)) StepsDownBy (omega arith) (omega arith) tt tt (held 13) tt (omega arith)
+      (fields_own b o 8 Missing Missing real13 None 17 (StepDownBy (real word13)) refl refl refl refl refl)
+      (fields_asked b o 8 Missing Missing real13 None 17 (StepDownBy (real word13)) refl refl refl refl refl)
       k
       (two_words b o l)
   same GoesTo k l =
-      fields_same b o 9 real13 Missing Missing NoTime 17 (Goto (real word13)) GoesTo (omega arith) (omega arith) (held 13) tt tt tt (omega arith)
-      (fields_own b o 9 real13 Missing Missing NoTime 17 (Goto (real word13)) refl refl refl refl refl)
-      (fields_asked b o 9 real13 Missing Missing NoTime 17 (Goto (real word13)) refl refl refl refl refl)
+      fields_same b o 9 real13 Missing Missing None 17 (Goto (real word13)) GoesTo (omega arith) (omega arith) (held 13) tt tt tt (omega arith)
+      (fields_own b o 9 real13 Missing Missing None 17 (Goto (real word13)) refl refl refl refl refl)
+      (fields_asked b o 9 real13 Missing Missing None 17 (Goto (real word13)) refl refl refl refl refl)
       k
       (two_words b o l)
   same Relinquishes k l =
-      fields_same b o 10 Missing Missing Missing NoTime 13 Relinquish Relinquishes (omega arith) (omega arith) tt tt tt tt (omega arith)
-      (fields_own b o 10 Missing Missing Missing NoTime 13 Relinquish refl refl refl refl refl)
-      (fields_asked b o 10 Missing Missing Missing NoTime 13 Relinquish refl refl refl refl refl)
+      fields_same b o 10 Missing Missing Missing None 13 Relinquish Relinquishes (omega arith) (omega arith) tt tt tt tt (omega arith)
+      (fields_own b o 10 Missing Missing Missing None 13 Relinquish refl refl refl refl refl)
+      (fields_asked b o 10 Missing Missing Missing None 13 Relinquish refl refl refl refl refl)
       k
       (last_word b o 13 l)
   same CommandsTagged k l = tt

@@ -1,7 +1,6 @@
 -- §1, 'It acts as the plain kind does, in lists too': a plain command frame, kinds 10 to 1A, sent in tags
 -- instead (kind 1B), and what is then asked of lists.
-use Rattle.std.specs.Prelude.{Bool, ◌∷◌, ◌++◌, ℕ, eqb, length, take, drop}
-use Rattle.std.proofs.Math.Option.{Option, none, some}
+use Rattle.std.specs.Prelude.{Bool, ◌∷◌, ◌++◌, ℕ, eqb, length, take, drop, Option, Some, None}
 use Rattle.lighting_levels.specs.Paper.Choice.{when◌then◌else◌}
 use Rattle.lighting_levels.specs.Paper.Field.{byte_at, big_endian}
 use Rattle.lighting_frames.specs.Paper.Kinds.{kind_row, kind_length}
@@ -12,8 +11,6 @@ use Rattle.lighting_frames.specs.declared.Action.{Action}
 use Rattle.lighting_frames.specs.declared.Action.TheVariants.{WritesLevel, EmptiesSlot, WritesProperty, ReadsProperty, Stops, FadesTo, FadesToOver, RampsTo, RampsToAtRate, StepsUp, StepsDown, StepsUpBy, StepsDownBy, GoesTo, Relinquishes, CommandsTagged}
 use Rattle.lighting_frames.specs.declared.Kind.{Kind}
 use Rattle.lighting_frames.specs.declared.Kind.TheVariants.{NoKind, ClockKind, CallKind}
-use Rattle.lighting_outputs.specs.declared.TimeField.{TimeField}
-use Rattle.lighting_outputs.specs.declared.TimeField.TheVariants.{Time, NoTime}
 use Rattle.lighting_frames.specs.declared.TagField.{TagField}
 use Rattle.lighting_frames.specs.declared.TagField.TheVariants.{Holds, Missing}
 use Rattle.lighting_frames.specs.declared.TagFields.{TagFields}
@@ -23,10 +20,10 @@ use Rattle.lighting_frames.specs.declared.TagFields.{TagFields}
 abbrev real_word : Bytes → ℕ → TagField
 real_word b at = Holds 4 (big_endian 4 b at)
 
-abbrev time_word : Bytes → ℕ → TimeField
-time_word b at = Time (big_endian 4 b at)
+abbrev time_word : Bytes → ℕ → Option ℕ
+time_word b at = Some (big_endian 4 b at)
 
-abbrev pub plain_fields : ℕ → TagField → TagField → TagField → TimeField → ℕ → TagFields
+abbrev pub plain_fields : ℕ → TagField → TagField → TagField → Option ℕ → ℕ → TagFields
 plain_fields number level rate step fade d =
     record {
       operation = Holds 1 number;
@@ -39,28 +36,28 @@ plain_fields number level rate step fade d =
 
 -- by the table of 'Frames': what each kind adds, from left to right
 unfoldable pub plain_tags : Action → Bytes → Option TagFields
-plain_tags WritesLevel b = none
-plain_tags EmptiesSlot b = none
-plain_tags WritesProperty b = none
-plain_tags ReadsProperty b = none
-plain_tags Stops b = some (plain_fields 0 Missing Missing Missing NoTime (big_endian 4 b 13))
-plain_tags FadesTo b = some (plain_fields 1 (real_word b 13) Missing Missing NoTime (big_endian 4 b 17))
-plain_tags FadesToOver b = some (plain_fields 2 (real_word b 13) Missing Missing (time_word b 17) (big_endian 4 b 21))
-plain_tags RampsTo b = some (plain_fields 3 (real_word b 13) Missing Missing NoTime (big_endian 4 b 17))
-plain_tags RampsToAtRate b = some (plain_fields 4 (real_word b 13) (real_word b 17) Missing NoTime (big_endian 4 b 21))
-plain_tags StepsUp b = some (plain_fields 5 Missing Missing Missing NoTime (big_endian 4 b 13))
-plain_tags StepsDown b = some (plain_fields 6 Missing Missing Missing NoTime (big_endian 4 b 13))
-plain_tags StepsUpBy b = some (plain_fields 7 Missing Missing (real_word b 13) NoTime (big_endian 4 b 17))
-plain_tags StepsDownBy b = some (plain_fields 8 Missing Missing (real_word b 13) NoTime (big_endian 4 b 17))
-plain_tags GoesTo b = some (plain_fields 9 (real_word b 13) Missing Missing NoTime (big_endian 4 b 17))
-plain_tags Relinquishes b = some (plain_fields 10 Missing Missing Missing NoTime (big_endian 4 b 13))
-plain_tags CommandsTagged b = none
+plain_tags WritesLevel b = None
+plain_tags EmptiesSlot b = None
+plain_tags WritesProperty b = None
+plain_tags ReadsProperty b = None
+plain_tags Stops b = Some (plain_fields 0 Missing Missing Missing None (big_endian 4 b 13))
+plain_tags FadesTo b = Some (plain_fields 1 (real_word b 13) Missing Missing None (big_endian 4 b 17))
+plain_tags FadesToOver b = Some (plain_fields 2 (real_word b 13) Missing Missing (time_word b 17) (big_endian 4 b 21))
+plain_tags RampsTo b = Some (plain_fields 3 (real_word b 13) Missing Missing None (big_endian 4 b 17))
+plain_tags RampsToAtRate b = Some (plain_fields 4 (real_word b 13) (real_word b 17) Missing None (big_endian 4 b 21))
+plain_tags StepsUp b = Some (plain_fields 5 Missing Missing Missing None (big_endian 4 b 13))
+plain_tags StepsDown b = Some (plain_fields 6 Missing Missing Missing None (big_endian 4 b 13))
+plain_tags StepsUpBy b = Some (plain_fields 7 Missing Missing (real_word b 13) None (big_endian 4 b 17))
+plain_tags StepsDownBy b = Some (plain_fields 8 Missing Missing (real_word b 13) None (big_endian 4 b 17))
+plain_tags GoesTo b = Some (plain_fields 9 (real_word b 13) Missing Missing None (big_endian 4 b 17))
+plain_tags Relinquishes b = Some (plain_fields 10 Missing Missing Missing None (big_endian 4 b 13))
+plain_tags CommandsTagged b = None
 
 -- THE FRAME IN TAGS: kind 1B, the same station, number, time and output, then L and the 17 bytes. A frame
 -- that is no plain command, or not of its kind's length, is left
 abbrev pub framed : Bytes → Option TagFields → Bytes
-framed b none = b
-framed b (some f) = 0x1b ∷ (take 12 (drop 1 b) ++ body_bytes f)
+framed b None = b
+framed b (Some f) = 0x1b ∷ (take 12 (drop 1 b) ++ body_bytes f)
 
 abbrev pub framed_by : Kind → Bytes → Bytes
 framed_by NoKind b = b

@@ -1,7 +1,7 @@
 -- §1, 'LIGHTING COMMANDS IN BACNET'S OWN TAGGING': a command as clause 21 has it, in the context tags of
 -- clause 20.2, written and read. The reading is of the form alone, refusals 14 and 15: what is read meets the
 -- ranges of the plain kinds (`command_of`, Frames.antt).
-use Rattle.std.specs.Prelude.{Bool, true, false, List, ◌∷◌, ◌++◌, [], ℕ, suc, ◌+◌, ◌-◌, ◌*◌, leb, ltb, eqb, Float, length, get_or, take, drop, replicate}
+use Rattle.std.specs.Prelude.{Bool, true, false, List, ◌∷◌, ◌++◌, [], ℕ, suc, ◌+◌, ◌-◌, ◌*◌, leb, ltb, eqb, Float, length, get_or, take, drop, replicate, Option, Some, None}
 use Rattle.lighting_levels.specs.Paper.Choice.{when◌then◌else◌, ◌also◌, all_from}
 use Rattle.lighting_levels.specs.Paper.Level.{real, bits}
 use Rattle.lighting_levels.specs.Paper.Field.{byte_at, big_endian, octets}
@@ -10,10 +10,6 @@ use Rattle.lighting_outputs.specs.Paper.Operations.{operation_number, fields_of,
 use Rattle.lighting_outputs.specs.declared.Operation.{Operation}
 use Rattle.lighting_outputs.specs.declared.Operation.TheVariants.{Stop, FadeTo, FadeToOver, RampTo, RampToAtRate, StepUp, StepDown, StepUpBy, StepDownBy, Goto, Relinquish}
 use Rattle.lighting_outputs.specs.declared.Command.{Command}
-use Rattle.lighting_outputs.specs.declared.RealField.{RealField}
-use Rattle.lighting_outputs.specs.declared.RealField.TheVariants.{Real, NoReal}
-use Rattle.lighting_outputs.specs.declared.TimeField.{TimeField}
-use Rattle.lighting_outputs.specs.declared.TimeField.TheVariants.{Time, NoTime}
 use Rattle.lighting_frames.specs.declared.TagField.{TagField}
 use Rattle.lighting_frames.specs.declared.TagField.TheVariants.{Holds, Missing}
 use Rattle.lighting_frames.specs.declared.TagFields.{TagFields}
@@ -84,16 +80,16 @@ unfoldable pub tag_bytes : TagFields → List ℕ
 tag_bytes f = bytes_from 0 (listed f)
 
 -- what a field holds: a REAL's four octets; a whole number's fewest; nothing
-unfoldable pub real_tag : RealField → TagField
-real_tag (Real x) = Holds 4 (bits x)
-real_tag NoReal = Missing
+unfoldable pub real_tag : Option Float → TagField
+real_tag (Some x) = Holds 4 (bits x)
+real_tag None = Missing
 
-unfoldable pub whole_tag : TimeField → TagField
-whole_tag (Time v) = Holds (fewest_octets v) v
-whole_tag NoTime = Missing
+unfoldable pub whole_tag : Option ℕ → TagField
+whole_tag (Some v) = Holds (fewest_octets v) v
+whole_tag None = Missing
 
 -- an operation with its own fields, and a duration
-unfoldable pub tags_of : Operation → TimeField → TagFields
+unfoldable pub tags_of : Operation → Option ℕ → TagFields
 tags_of operation duration =
     let own = fields_of operation in
     record {
@@ -189,9 +185,9 @@ operation_of f =
     (held_by f.operation)
     Stop
 
-unfoldable pub time_of : TagField → TimeField
-time_of (Holds count value) = Time value
-time_of Missing = NoTime
+unfoldable pub time_of : TagField → Option ℕ
+time_of (Holds count value) = Some value
+time_of Missing = None
 
 -- '15: field missing, foreign, or not in fewest octets'. 'The operation's own fields must be there and no
 -- others', the operation itself too; a REAL's octets are always four

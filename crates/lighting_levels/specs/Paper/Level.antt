@@ -2,12 +2,10 @@
 -- and 'Frames'. A finite REAL `fin s m e` is the exact number a / c, with a = m * up e and c = down e,
 -- negative where s is true.
 use Prim.Native.Nat.{ℕ, suc, ◌+◌, ◌*◌, ◌/◌, ◌%◌, min, compare, Ordering, ◌-◌}
-use Rattle.std.specs.Prelude.{Bool, true, false, leb, ltb, eqb, Float}
+use Rattle.std.specs.Prelude.{Bool, true, false, leb, ltb, eqb, Float, Option, Some, None}
 use Rattle.std.specs.Float.{nan, inf, fin, binary32}
 use Rattle.std.specs.Float.Ieee.{up, down, round, of_bits, to_bits}
 use Rattle.lighting_levels.specs.Paper.Choice.{when◌then◌else◌, ◌also◌}
-use Rattle.lighting_levels.specs.declared.Level.{Level}
-use Rattle.lighting_levels.specs.declared.Level.TheVariants.{Units, OutOfRange}
 
 -- 'a whole number of 1/65,536 percent': the units of one percent, which is the least level above 0, and of
 -- 100 percent, the greatest
@@ -48,18 +46,18 @@ abbrev pub units_in : ℕ → ℕ → ℕ
 units_in a c = nearest_to (a * one_percent) c
 
 -- a / c from k eighths to 100, in units
-abbrev pub from_to : ℕ → ℕ → ℕ → Level
-from_to k a c = when leb (k * c) (a * 8) also leb a (100 * c) then Units (units_in a c) else OutOfRange
+abbrev pub from_to : ℕ → ℕ → ℕ → Option ℕ
+from_to k a c = when leb (k * c) (a * 8) also leb a (100 * c) then Some (units_in a c) else None
 
 -- 'A REAL from 0 to 100 becomes the nearest unit [..]; above 0 and below 1 it becomes 65,536'
-abbrev pub level_in : ℕ → ℕ → Level
-level_in a c = when eqb a 0 then Units 0 else when ltb a c then Units least_level else from_to 8 a c
+abbrev pub level_in : ℕ → ℕ → Option ℕ
+level_in a c = when eqb a 0 then Some 0 else when ltb a c then Some least_level else from_to 8 a c
 
 -- 'Minus zero is 0. NaN, infinities, negatives and values above 100 are refused.'
-unfoldable pub level_of : Float → Level
-level_of nan = OutOfRange
-level_of (inf s) = OutOfRange
-level_of (fin true m e) = when eqb (m * up e) 0 then Units 0 else OutOfRange
+unfoldable pub level_of : Float → Option ℕ
+level_of nan = None
+level_of (inf s) = None
+level_of (fin true m e) = when eqb (m * up e) 0 then Some 0 else None
 level_of (fin false m e) = level_in (m * up e) (down e)
 
 -- 'A level is read out as one division by 65,536': the REAL nearest to n / 65,536. Of a level it is n /
@@ -73,30 +71,30 @@ unfoldable pub read_out : ℕ → ℕ
 read_out n = bits (real_of (min n greatest_level))
 
 -- a REAL from k eighths to 100, in units
-unfoldable pub real_from_to : ℕ → Float → Level
-real_from_to k nan = OutOfRange
-real_from_to k (inf s) = OutOfRange
-real_from_to k (fin true m e) = OutOfRange
+unfoldable pub real_from_to : ℕ → Float → Option ℕ
+real_from_to k nan = None
+real_from_to k (inf s) = None
+real_from_to k (fin true m e) = None
 real_from_to k (fin false m e) = from_to k (m * up e) (down e)
 
 -- 'Rates (percent a second) and steps: REAL 0.125 to 100, to the nearest unit, [..] never raised to 65,536.'
-unfoldable pub amount_of : Float → Level
+unfoldable pub amount_of : Float → Option ℕ
 unfolding real_from_to
 amount_of x = real_from_to 1 x
 
 -- '08 Min 1 and 09 Max 100 (REAL 1 to 100)'
-unfoldable pub limit_of : Float → Level
+unfoldable pub limit_of : Float → Option ℕ
 unfolding real_from_to
 limit_of x = real_from_to 8 x
 
 -- 'REAL out of range' is a refusal: whether it is not met, and the units or, out of range, d
-unfoldable pub in_range : Level → Bool
-in_range (Units v) = true
-in_range OutOfRange = false
+unfoldable pub in_range : Option ℕ → Bool
+in_range (Some v) = true
+in_range None = false
 
-unfoldable pub units_or : ℕ → Level → ℕ
-units_or d (Units v) = v
-units_or d OutOfRange = d
+unfoldable pub units_or : ℕ → Option ℕ → ℕ
+units_or d (Some v) = v
+units_or d None = d
 
 -- A rate or a step that is kept as a REAL, in units. It is asked of settings that meet the rules and of
 -- commands that were taken: none has one out of range, for which the least stands

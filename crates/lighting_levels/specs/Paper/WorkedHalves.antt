@@ -1,13 +1,11 @@
 -- §5 of the change requests by hand: REALs halfway between two units, and the patterns beside them, beside
 -- what one reckons on paper. proofs/Figures.antt proves them equal. From 1 to 2 percent 128 patterns are a
 -- unit (3F800080 is 65,537 units), from 64 percent on two, from 0.125 to 0.25 percent 1,024.
-use Rattle.std.specs.Prelude.{List, [], ◌∷◌, map, ℕ, Float}
+use Rattle.std.specs.Prelude.{List, [], ◌∷◌, map, ℕ, Float, Option, Some, None}
 use Rattle.lighting_levels.specs.Paper.Level.{real, level_of, limit_of, amount_of}
-use Rattle.lighting_levels.specs.declared.Level.{Level}
-use Rattle.lighting_levels.specs.declared.Level.TheVariants.{Units, OutOfRange}
 
 -- the units of patterns, read as levels, as limits (Min and Max), as rates or steps
-abbrev units : (Float → Level) → List ℕ → List Level
+abbrev units : (Float → Option ℕ) → List ℕ → List (Option ℕ)
 units reads patterns = map (λ (b : ℕ). reads (real b)) patterns
 
 -- 65,536.5 and 65,537.5, each between its two neighbours
@@ -32,7 +30,7 @@ below_one_percent = 0x3700_0000 ∷ 0x37c0_0000 ∷ 0x3e00_0200 ∷ 0x3f7f_fe80 
 abbrev just_outside : List ℕ
 just_outside = 0x42c8_0001 ∷ 0x3dff_fc00 ∷ []
 
-abbrev pub halves_given : List (List Level)
+abbrev pub halves_given : List (List (Option ℕ))
 halves_given =
     units level_of about_one_percent
     ∷ units limit_of about_one_percent
@@ -47,13 +45,13 @@ halves_given =
     ∷ units amount_of just_outside
     ∷ []
 
-abbrev one_percent_said : List Level
-one_percent_said = Units 65536 ∷ Units 65536 ∷ Units 65537 ∷ Units 65537 ∷ Units 65538 ∷ Units 65538 ∷ []
+abbrev one_percent_said : List (Option ℕ)
+one_percent_said = Some 65536 ∷ Some 65536 ∷ Some 65537 ∷ Some 65537 ∷ Some 65538 ∷ Some 65538 ∷ []
 
-abbrev most_said : List Level
-most_said = Units 4194304 ∷ Units 4194305 ∷ Units 4194306 ∷ Units 6553598 ∷ Units 6553599 ∷ Units 6553600 ∷ []
+abbrev most_said : List (Option ℕ)
+most_said = Some 4194304 ∷ Some 4194305 ∷ Some 4194306 ∷ Some 6553598 ∷ Some 6553599 ∷ Some 6553600 ∷ []
 
-abbrev pub halves_said : List (List Level)
+abbrev pub halves_said : List (List (Option ℕ))
 halves_said =
     one_percent_said
     ∷ one_percent_said
@@ -61,9 +59,9 @@ halves_said =
     ∷ most_said
     ∷ most_said
     ∷ most_said
-    ∷ (Units 8192 ∷ Units 8192 ∷ Units 8193 ∷ Units 8193 ∷ Units 8194 ∷ Units 8194 ∷ Units 65534 ∷ Units 65536 ∷ [])
-    ∷ (Units 65536 ∷ Units 65536 ∷ Units 65536 ∷ Units 65536 ∷ Units 65536 ∷ [])
-    ∷ (OutOfRange ∷ OutOfRange ∷ OutOfRange ∷ OutOfRange ∷ OutOfRange ∷ [])
-    ∷ (OutOfRange ∷ OutOfRange ∷ [])
-    ∷ (OutOfRange ∷ OutOfRange ∷ [])
+    ∷ (Some 8192 ∷ Some 8192 ∷ Some 8193 ∷ Some 8193 ∷ Some 8194 ∷ Some 8194 ∷ Some 65534 ∷ Some 65536 ∷ [])
+    ∷ (Some 65536 ∷ Some 65536 ∷ Some 65536 ∷ Some 65536 ∷ Some 65536 ∷ [])
+    ∷ (None ∷ None ∷ None ∷ None ∷ None ∷ [])
+    ∷ (None ∷ None ∷ [])
+    ∷ (None ∷ None ∷ [])
     ∷ []

@@ -1,8 +1,8 @@
 -- What a first arrival is answered: never refusal 1.
+use Rattle.std.specs.Prelude.{Option, Some, None, Float}
 use mathlib.Core.Path.{◌≡◌, refl}
 use mathlib.Core.Logic.{◌≢◌}
 use mathlib.Core.Bool.{Bool}
-use mathlib.Core.Option.{Option, none, some}
 use Prim.Native.Nat.{ℕ}
 use native.Mathlib.Omega.{arith}
 use Rattle.lighting_levels.specs.Paper.Choice.{when◌then◌else◌}
@@ -15,10 +15,6 @@ use Rattle.lighting_outputs.specs.Paper.Acting.{done, unchanged, acted}
 use Rattle.lighting_outputs.specs.Paper.Tenants.{hidden}
 use Rattle.lighting_outputs.specs.declared.Duration.{Duration}
 use Rattle.lighting_outputs.specs.declared.Duration.TheVariants.{Lasts, Cancels, Omitted}
-use Rattle.lighting_outputs.specs.declared.RealField.{RealField}
-use Rattle.lighting_outputs.specs.declared.RealField.TheVariants.{Real, NoReal}
-use Rattle.lighting_outputs.specs.declared.TimeField.{TimeField}
-use Rattle.lighting_outputs.specs.declared.TimeField.TheVariants.{Time, NoTime}
 use Rattle.lighting_outputs.specs.declared.Property.{Property}
 use Rattle.lighting_outputs.specs.declared.Property.TheVariants.{RelinquishDefault, FadeTime, RampRate, StepIncrement, BlinkEnable, BlinkTime, BlinkWarnDelay, MinValue, MaxValue, CommandPriority, ElapsedActiveTime, PresentValue, ProgressValue, InProcess, LastOperation, LastLevel, LastRate, LastStep, LastFadeTime, LastDuration, BinaryActiveValue, BinaryInactiveValue, Polarity, BinaryPresentValue, RelayState, SlotValue, Unknown}
 use Rattle.lighting_outputs.specs.declared.Answer.{Answer}
@@ -35,15 +31,15 @@ pub record NotOne (a : Answer) : Type 0 where
 pub not_one : (a : Answer) → refusal_of a ≡ 0 → NotOne a
 not_one a h = record { other = omega arith }
 
-real_none : (x : RealField) → refusal_of (real_field_answer x) ≡ 0
+real_none : (x : Option Float) → refusal_of (real_field_answer x) ≡ 0
 unfolding real_field_answer real_answer
-real_none (Real x) = refl
-real_none NoReal = refl
+real_none (Some x) = refl
+real_none None = refl
 
-time_none : (x : TimeField) → refusal_of (time_field_answer x) ≡ 0
+time_none : (x : Option ℕ) → refusal_of (time_field_answer x) ≡ 0
 unfolding time_field_answer
-time_none (Time l) = refl
-time_none NoTime = refl
+time_none (Some l) = refl
+time_none None = refl
 
 duration_none : (d : Duration) → refusal_of (last_duration d) ≡ 0
 unfolding last_duration
@@ -56,8 +52,8 @@ unfolding slot_answer
 slot_none s i = by (slot s i)
   where
     by : (x : Option ℕ) → refusal_of (level_or_absent x) ≡ 0
-    by none = unfold level_or_absent in refl
-    by (some v) = unfold level_or_absent level_answer in refl
+    by None = unfold level_or_absent in refl
+    by (Some v) = unfold level_or_absent level_answer in refl
 
 read_property_not_one : (tenant : Bool) (t : ℕ) (o : Output) (n : Property) → NotOne (read_property tenant t o n)
 unfolding read_property level_answer real_answer when◌then◌else◌

@@ -1,8 +1,8 @@
 -- Each of the eleven commands keeps the record rules.
+use Rattle.std.specs.Prelude.{Option, Some, None}
 use mathlib.Core.Path.{◌≡◌, sym, ap, ◌∙◌}
 use mathlib.Core.Logic.{◌≢◌}
 use mathlib.Core.Bool.{false}
-use mathlib.Core.Option.{Option, none, some}
 use Prim.Native.Nat.{ℕ, ◌≤◌, ◌<◌, min, max}
 use native.Mathlib.Omega.{arith}
 use lib.Ieee.{Float}
@@ -66,7 +66,7 @@ unfolding without_warning activity_without_warning
 without_warning_staged p t c s Still f h = record { slots = f; activity = h }
 without_warning_staged p t c s (Moving m) f h = record { slots = f; activity = h }
 without_warning_staged p t c s (Warned w) f h =
-    record { slots = put_filled s slot6 none f (omega arith) tt; activity = six_set s f.size none }
+    record { slots = put_filled s slot6 None f (omega arith) tt; activity = six_set s f.size None }
 
 -- A TARGET PUT IN SLOT p, at t, with settings c, slots s and activity a
 module _ (p : Parameters) (t : ℕ) (c : Settings) (k : SettingsInRange p c) (s : Slots) (f : Filled s) (a : Activity) (q : Calm a) (h : Acts p t c s a) where
@@ -76,13 +76,13 @@ module _ (p : Parameters) (t : ℕ) (c : Settings) (k : SettingsInRange p c) (s 
 
   -- an activity goes on when a slot is filled that does not win
   outdone_acts : (g : ℕ) (b : Activity) → Calm b → Acts p t c s b → winner (filled s c.slot g) ≢ c.slot → Acts p t c (filled s c.slot g) b
-  outdone_acts g Still r b n = six (some g)
+  outdone_acts g Still r b n = six (Some g)
   outdone_acts g (Moving m) r b n =
       by_le
       c.slot
       (winner s)
       (λ l e. absurd (n (winner_filled s f.size c.slot g k.slot.inside l)))
-      (λ l e. moving_over p t c s f.size c.slot k.slot (some g) m l b)
+      (λ l e. moving_over p t c s f.size c.slot k.slot (Some g) m l b)
   outdone_acts g (Warned w) r b n = elim r [ ]
 
   -- if it wins, the new activity has to fit the new slots
@@ -91,7 +91,7 @@ module _ (p : Parameters) (t : ℕ) (c : Settings) (k : SettingsInRange p c) (s 
   unfolding placed replaced when◌then◌else◌
   placed_staged g new l fit =
       record {
-        slots = put_filled s c.slot (some g) f k.slot.inside l;
+        slots = put_filled s c.slot (Some g) f k.slot.inside l;
         activity =
             by_eq
             (winner (filled s c.slot g))
@@ -102,7 +102,7 @@ module _ (p : Parameters) (t : ℕ) (c : Settings) (k : SettingsInRange p c) (s 
 
   jumped_staged : (g : ℕ) → IsLevel g → Staged p t c (jumped c s a g)
   unfolding jumped
-  jumped_staged g l = placed_staged g Still l (λ y. six (some g))
+  jumped_staged g l = placed_staged g Still l (λ y. six (Some g))
 
   -- a movement from b to a target that Min..Max leave as it is
   moved_staged : (b g l : ℕ) (pace : Pace) → b ≤ c.max → IsLevel g → clamp_lit c g ≡ g → (b ≢ g → Within 1 (longest_movement p) l)
@@ -116,12 +116,12 @@ module _ (p : Parameters) (t : ℕ) (c : Settings) (k : SettingsInRange p c) (s 
       (λ w. by_eq
       b
       g
-      (λ y e. rw e (six (some g)))
+      (λ y e. rw e (six (Some g)))
       (λ y e. let z = long y in
       rw
       e
       (record {
-        six = six (some g);
+        six = six (Some g);
         owner = k.slot.inside;
         wins = sym w;
         start = m;
@@ -148,8 +148,8 @@ module _ (p : Parameters) (t : ℕ) (c : Settings) (k : SettingsInRange p c) (s 
           c.slot
           (λ y e. rw e
           (record {
-            slots = put_filled s c.slot (some (raised c b)) f k.slot.inside raised_level;
-            activity = six (some (raised c b));
+            slots = put_filled s c.slot (Some (raised c b)) f k.slot.inside raised_level;
+            activity = six (Some (raised c b));
           }))
           (λ y e. rw e (record { slots = f; activity = h }))
       go (Warned w) h = record { slots = f; activity = h }
@@ -158,7 +158,7 @@ module _ (p : Parameters) (t : ℕ) (c : Settings) (k : SettingsInRange p c) (s 
   unfolding relinquished
   relinquished_staged =
       record {
-        slots = put_filled s c.slot none f k.slot.inside tt;
+        slots = put_filled s c.slot None f k.slot.inside tt;
         activity = end_movement_of_acts p t c s c.slot a k.slot f h;
       }
 

@@ -1,7 +1,7 @@
 -- Kinds 02 and 03 keep the record rules.
+use Rattle.std.specs.Prelude.{Option, Some, None}
 use mathlib.Core.Path.{◌≡◌, ◌∙◌}
 use mathlib.Core.Bool.{true, false}
-use mathlib.Core.Option.{Option, none, some}
 use Prim.Native.Nat.{ℕ, ◌+◌, ◌<◌}
 use native.Mathlib.Omega.{arith}
 use lib.ListN.{length}
@@ -55,25 +55,25 @@ module _ (p : Parameters) (t : ℕ) (c : Settings) (s : Slots) (size : length s.
   passed_acts x (Warned w) h = let k = six_kept s size i x slot.inside slot.free in search
 
   -- an empty slot emptied: all goes on
-  dead_acts : (a : Activity) → is_live s i ≡ false → Acts p t c s a → Acts p t c (put s i none) a
-  dead_acts Still e h = six_kept s size i none slot.inside slot.free ∙ h
+  dead_acts : (a : Activity) → is_live s i ≡ false → Acts p t c s a → Acts p t c (put s i None) a
+  dead_acts Still e h = six_kept s size i None slot.inside slot.free ∙ h
   dead_acts (Moving m) e h =
-      kept_moving p t c s (put s i none) m h
-      (six_kept s size i none slot.inside slot.free)
+      kept_moving p t c s (put s i None) m h
+      (six_kept s size i None slot.inside slot.free)
       (winner_dead s size i slot.inside e)
       (winning_level_dead s size c.default i slot.inside e)
-  dead_acts (Warned w) e h = let k = six_kept s size i none slot.inside slot.free in search
+  dead_acts (Warned w) e h = let k = six_kept s size i None slot.inside slot.free in search
 
-  slot_relinquished_acts : (a : Activity) → Acts p t c s a → Acts p t c (put s i none) (activity_relinquished (is_live s i) i a)
+  slot_relinquished_acts : (a : Activity) → Acts p t c s a → Acts p t c (put s i None) (activity_relinquished (is_live s i) i a)
   unfolding activity_relinquished when◌then◌else◌
-  slot_relinquished_acts a h = by_bool (is_live s i) (λ e. rw e (passed_acts none a h)) (λ e. rw e (dead_acts a e h))
+  slot_relinquished_acts a h = by_bool (is_live s i) (λ e. rw e (passed_acts None a h)) (λ e. rw e (dead_acts a e h))
 
 stored_sound : (p : Parameters) (t : ℕ) (o : Output) (i v : ℕ) → Slot i → IsLevel v → Sound p t o → Sound p t (stored o i v)
 unfolding stored
 stored_sound p t o i v g l h =
     effect_sound p t o _ _ h
-    (put_filled o.slots i (some v) h.slots g.inside l)
-    (passed_acts p t o.settings o.slots h.slots.size i g (some v) o.activity h.activity)
+    (put_filled o.slots i (Some v) h.slots g.inside l)
+    (passed_acts p t o.settings o.slots h.slots.size i g (Some v) o.activity h.activity)
 
 -- A WARNING STARTS
 first_level_lem : (c : Settings) (y : ℕ) → IsLevel y → IsLevel (first_level c y)
@@ -91,10 +91,10 @@ warned_sound : (p : Parameters) (t : ℕ) (o : Output) (x : ℕ) → Slot x → 
 unfolding warned warned_by
 warned_sound p t o x g l b h =
     let y = present_level p o.settings o.slots h.settings in
-    let f = put_filled o.slots x (some 0) h.slots g.inside level_zero in
+    let f = put_filled o.slots x (Some 0) h.slots g.inside level_zero in
     effect_sound p t o _ _ h
-    (put_filled (filled o.slots x 0) slot6 (some _) f (omega arith) (first_level_lem o.settings _ y))
-    (first_acts p t o.settings _ x _ g l b y (six_set (filled o.slots x 0) f.size (some _)))
+    (put_filled (filled o.slots x 0) slot6 (Some _) f (omega arith) (first_level_lem o.settings _ y))
+    (first_acts p t o.settings _ x _ g l b y (six_set (filled o.slots x 0) f.size (Some _)))
 
 -- what the test for a warning tells
 warns_facts : (c : Settings) (s : Slots) (x : ℕ) → warns c s x ≡ true → (0 < c.blink + c.delay) × (slot6 < x)
@@ -105,10 +105,10 @@ warns_facts c s x h = search parts
 ended_sound : (p : Parameters) (t : ℕ) (o : Output) (i : ℕ) (x : Option ℕ) → Slot i → SlotLevel x → Sound p t o
     → Sound p t (with_effect o (put (emptied o.slots slot6) i x) Still)
 ended_sound p t o i x g l h =
-    let f = put_filled o.slots slot6 none h.slots (omega arith) tt in
+    let f = put_filled o.slots slot6 None h.slots (omega arith) tt in
     effect_sound p t o _ _ h
     (put_filled (emptied o.slots slot6) i x f g.inside l)
-    (six_kept (emptied o.slots slot6) f.size i x g.inside g.free ∙ six_set o.slots h.slots.size none)
+    (six_kept (emptied o.slots slot6) f.size i x g.inside g.free ∙ six_set o.slots h.slots.size None)
 
 warned_written : (p : Parameters) (t : ℕ) (o : Output) (i v : ℕ) → Slot i → IsLevel v → Sound p t o → Sound p t (written_warned o i v)
 unfolding written_warned ended_empty ended_stored when◌then◌else◌
@@ -119,9 +119,9 @@ warned_written p t o i v g l h =
     (λ z e. by_lt
     slot6
     i
-    (λ q e'. rw (e, e') (ended_sound p t o i none g tt h))
-    (λ q e'. rw (e, e') (ended_sound p t o i (some v) g l h)))
-    (λ z e. rw e (ended_sound p t o i (some v) g l h))
+    (λ q e'. rw (e, e') (ended_sound p t o i None g tt h))
+    (λ q e'. rw (e, e') (ended_sound p t o i (Some v) g l h)))
+    (λ z e. rw e (ended_sound p t o i (Some v) g l h))
 
 -- KIND 02
 calm_written : (p : Parameters) (t : ℕ) (o : Output) (i v : ℕ) → Slot i → IsLevel v → Sound p t o → Sound p t (written_calm t o i v)
@@ -151,5 +151,5 @@ pub slot_relinquished_sound : (p : Parameters) (t : ℕ) (o : Output) (i : ℕ) 
 unfolding slot_relinquished
 slot_relinquished_sound p t o i g h =
     effect_sound p t o _ _ h
-    (put_filled o.slots i none h.slots g.inside tt)
+    (put_filled o.slots i None h.slots g.inside tt)
     (slot_relinquished_acts p t o.settings o.slots h.slots.size i g o.activity h.activity)

@@ -1,9 +1,9 @@
 -- A DURATION empties its slot at its moment and not before, whatever writes come; 0 cancels it, absent leaves
 -- it.
+use Rattle.std.specs.Prelude.{Option, Some, None}
 use mathlib.Core.Path.{◌≡◌, refl, sym, ap, subst, ◌∙◌}
 use mathlib.Core.Logic.{◌≢◌}
 use mathlib.Core.Bool.{Bool, true, false, true≢false}
-use mathlib.Core.Option.{Option, none, some}
 use Prim.Native.Nat.{ℕ, zero, suc, ◌+◌, ◌≤◌, ◌<◌}
 use native.Mathlib.Omega.{arith}
 use lib.Dec.{eqb, leb, ltb}
@@ -156,33 +156,33 @@ end_movement_of_owned q (Moving m) h = by_bool (eqb m.owner q) (λ e. rw e tt) (
 end_movement_of_owned q (Warned w) h = h
 
 -- AT ITS MOMENT its slot is empty, whatever a warning does at the same moment
-slots_none : (t q : ℕ) (a : Activity) (s : Slots) → length s.levels ≡ slot_count → q < slot_count → q ≢ slot6 → Owned a → slot s q ≡ none → slot (slots_at t a s) q ≡ none
+slots_none : (t q : ℕ) (a : Activity) (s : Slots) → length s.levels ≡ slot_count → q < slot_count → q ≢ slot6 → Owned a → slot s q ≡ None → slot (slots_at t a s) q ≡ None
 unfolding slots_at when◌then◌else◌
 slots_none t q a s z k n w h = by_bool (is_due t (activity_due a)) (λ e. rw e (next a w)) (λ e. rw e h)
   where
-    phase : (x : Warning) (y : Phase) → x.owner < slot_count → slot (phase_slots x y s) q ≡ none
+    phase : (x : Warning) (y : Phase) → x.owner < slot_count → slot (phase_slots x y s) q ≡ None
     phase x Blink l = unfold phase_slots in
         (by_bool (ltb x.turn x.over)
-        (λ e. rw e (slot_other s z slot6 q (some x.level) (omega arith) (λ y. n (sym y)) ∙ h))
-        (λ e. rw e (slot_other s z slot6 q none (omega arith) (λ y. n (sym y)) ∙ h)))
+        (λ e. rw e (slot_other s z slot6 q (Some x.level) (omega arith) (λ y. n (sym y)) ∙ h))
+        (λ e. rw e (slot_other s z slot6 q None (omega arith) (λ y. n (sym y)) ∙ h)))
     phase x Delay l = unfold phase_slots in
         (by_eq x.owner q
-        (λ y e. rw y (slot_same (emptied s slot6) (put_sized s z slot6 none) q none k))
-        (λ y e. slot_other (emptied s slot6) (put_sized s z slot6 none) x.owner q none l y ∙ slot_other s z slot6 q none (omega arith) (λ r. n (sym r)) ∙ h))
+        (λ y e. rw y (slot_same (emptied s slot6) (put_sized s z slot6 None) q None k))
+        (λ y e. slot_other (emptied s slot6) (put_sized s z slot6 None) x.owner q None l y ∙ slot_other s z slot6 q None (omega arith) (λ r. n (sym r)) ∙ h))
 
-    next : (b : Activity) → Owned b → slot (next_slots b s) q ≡ none
+    next : (b : Activity) → Owned b → slot (next_slots b s) q ≡ None
     next Still l = unfold next_slots in h
     next (Moving m) l = unfold next_slots in h
     next (Warned x) l = unfold next_slots in (phase x x.phase l)
 
-pub expires : (p : Parameters) (t q : ℕ) (o : Output) → Sound p t o → o.timer ≡ Running q (suc t) → (slot (tick t o).slots q ≡ none) × ((tick t o).timer ≡ Off)
+pub expires : (p : Parameters) (t q : ℕ) (o : Output) → Sound p t o → o.timer ≡ Running q (suc t) → (slot (tick t o).slots q ≡ None) × ((tick t o).timer ≡ Off)
 unfolding tick fire after_events with_burned with_burning timer_due is_due emptied_by expired end_movement_by end_movement_on_expiry timer_at when◌then◌else◌
 expires p t q o h e =
     let k : Slot q = (subst (λ (z : Timer). Timed t z) e h.timer).0 in
     rw (e, eqb_hit {a = suc t} {b = suc t} refl) (
-      slots_none (suc t) q (end_movement_of q o.activity) (emptied o.slots q) (put_sized o.slots h.slots.size q none) k.inside k.free
+      slots_none (suc t) q (end_movement_of q o.activity) (emptied o.slots q) (put_sized o.slots h.slots.size q None) k.inside k.free
           (end_movement_of_owned q o.activity (owned p t o o.activity h.activity))
-          (slot_same o.slots h.slots.size q none k.inside),
+          (slot_same o.slots h.slots.size q None k.inside),
       refl,
     )
 
@@ -205,31 +205,31 @@ put_alike : (s : Slots) → length s.levels ≡ slot_count → (q j i : ℕ) (x 
     → slot (put (emptied s q) i x) j ≡ slot (put s i x) j
 put_alike s z q j i x k n w =
     by_eq i j
-    (λ y e. rw y (slot_same (emptied s q) (put_sized s z q none) j x (rw y at w) ∙ sym (slot_same s z j x (rw y at w))))
-    (λ y e. slot_other (emptied s q) (put_sized s z q none) i j x w y ∙ slot_other s z q j none k n ∙ sym (slot_other s z i j x w y))
+    (λ y e. rw y (slot_same (emptied s q) (put_sized s z q None) j x (rw y at w) ∙ sym (slot_same s z j x (rw y at w))))
+    (λ y e. slot_other (emptied s q) (put_sized s z q None) i j x w y ∙ slot_other s z q j None k n ∙ sym (slot_other s z i j x w y))
 
 slots_alike : (t q j : ℕ) (a : Activity) (s : Slots) → length s.levels ≡ slot_count → q < slot_count → q ≢ j → Owned a
     → slot (slots_at t a (emptied s q)) j ≡ slot (slots_at t a s) j
 unfolding slots_at when◌then◌else◌
-slots_alike t q j a s z k n w = by_bool (is_due t (activity_due a)) (λ e. rw e (next a w)) (λ e. rw e (slot_other s z q j none k n))
+slots_alike t q j a s z k n w = by_bool (is_due t (activity_due a)) (λ e. rw e (next a w)) (λ e. rw e (slot_other s z q j None k n))
   where
     phase : (x : Warning) (y : Phase) → x.owner < slot_count → slot (phase_slots x y (emptied s q)) j ≡ slot (phase_slots x y s) j
     phase x Blink l = unfold phase_slots in
         (by_bool (ltb x.turn x.over)
-        (λ e. rw e (put_alike s z q j slot6 (some x.level) k n (omega arith)))
-        (λ e. rw e (put_alike s z q j slot6 none k n (omega arith))))
+        (λ e. rw e (put_alike s z q j slot6 (Some x.level) k n (omega arith)))
+        (λ e. rw e (put_alike s z q j slot6 None k n (omega arith))))
     phase x Delay l = unfold phase_slots in
         (by_eq x.owner j
         (λ y e. let i : j < slot_count = omega arith in
-        rw y (slot_same (emptied (emptied s q) slot6) (put_sized (emptied s q) (put_sized s z q none) slot6 none) j none i
-        ∙ sym (slot_same (emptied s slot6) (put_sized s z slot6 none) j none i)))
-        (λ y e. slot_other (emptied (emptied s q) slot6) (put_sized (emptied s q) (put_sized s z q none) slot6 none) x.owner j none l y
-        ∙ put_alike s z q j slot6 none k n (omega arith)
-        ∙ sym (slot_other (emptied s slot6) (put_sized s z slot6 none) x.owner j none l y)))
+        rw y (slot_same (emptied (emptied s q) slot6) (put_sized (emptied s q) (put_sized s z q None) slot6 None) j None i
+        ∙ sym (slot_same (emptied s slot6) (put_sized s z slot6 None) j None i)))
+        (λ y e. slot_other (emptied (emptied s q) slot6) (put_sized (emptied s q) (put_sized s z q None) slot6 None) x.owner j None l y
+        ∙ put_alike s z q j slot6 None k n (omega arith)
+        ∙ sym (slot_other (emptied s slot6) (put_sized s z slot6 None) x.owner j None l y)))
 
     next : (b : Activity) → Owned b → slot (next_slots b (emptied s q)) j ≡ slot (next_slots b s) j
-    next Still l = unfold next_slots in (slot_other s z q j none k n)
-    next (Moving m) l = unfold next_slots in (slot_other s z q j none k n)
+    next Still l = unfold next_slots in (slot_other s z q j None k n)
+    next (Moving m) l = unfold next_slots in (slot_other s z q j None k n)
     next (Warned x) l = unfold next_slots in (phase x x.phase l)
 
 -- a movement's end touches no slot
@@ -303,7 +303,7 @@ duration_lasts p allowed t d o k h m =
 
 pub duration_empties : (p : Parameters) → startable p ≡ true → {t t' : ℕ} {o' : Output} (o : Output) (d : ℕ) (k : Operation) → 100 ≤ d → d ≤ p.duration
     → Sound p t (alone t o (command_with_duration p k (plain_duration d))).output → Life p t (alone t o (command_with_duration p k (plain_duration d))).output t' o' → suc t' ≡ t + d
-    → (slot (tick t' o').slots o.settings.slot ≡ none) × ((tick t' o').timer ≡ Off)
+    → (slot (tick t' o').slots o.settings.slot ≡ None) × ((tick t' o').timer ≡ Off)
 duration_empties p allowed {t} {t'} {o'} o d k h m sound l e =
     expires p t' o.settings.slot o' (life_sound p l sound)
     (runs_on p o.settings.slot (t + d) l (duration_lasts p allowed t d o k h m) (omega arith)

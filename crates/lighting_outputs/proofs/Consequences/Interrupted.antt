@@ -1,9 +1,9 @@
 -- WHAT ENDS A WARNING, AND WHAT IT LEAVES. A warning is running exactly while slot 6 is live (the record
 -- rules).
+use Rattle.std.specs.Prelude.{Option, Some, None}
 use mathlib.Core.Path.{◌≡◌, refl, sym, ◌∙◌}
 use mathlib.Core.Logic.{◌≢◌}
 use mathlib.Core.Bool.{true, false, false≢true}
-use mathlib.Core.Option.{Option, none, some}
 use Prim.Native.Nat.{ℕ, ◌<◌}
 use native.Mathlib.Omega.{arith}
 use lib.ListN.{length}
@@ -29,15 +29,15 @@ pub record Leaves (o o' : Output) (i : ℕ) (a b : Option ℕ) (w : Activity) : 
 
 -- slot 6 emptied, then slot i put
 put_leaves : (o : Output) (i : ℕ) (x : Option ℕ) → length o.slots.levels ≡ slot_count → i < slot_count → i ≢ slot6
-    → Leaves o (with_effect o (put (emptied o.slots slot6) i x) Still) i none x Still
+    → Leaves o (with_effect o (put (emptied o.slots slot6) i x) Still) i None x Still
 unfolding with_effect
 put_leaves o i x z k n =
     let s = emptied o.slots slot6 in
-    let q = put_sized o.slots z slot6 none in
+    let q = put_sized o.slots z slot6 None in
     record {
-      six = slot_other s q i slot6 x k n ∙ slot_same o.slots z slot6 none (omega arith);
+      six = slot_other s q i slot6 x k n ∙ slot_same o.slots z slot6 None (omega arith);
       own = slot_same s q i x k;
-      rest = λ j y r. slot_other s q i j x k (λ e. r (sym e)) ∙ slot_other o.slots z slot6 j none (omega arith) (λ e. y (sym e));
+      rest = λ j y r. slot_other s q i j x k (λ e. r (sym e)) ∙ slot_other o.slots z slot6 j None (omega arith) (λ e. y (sym e));
       activity = refl;
     }
 
@@ -51,34 +51,34 @@ warned_by_lem p t o i v (Warned w) h e = refl
 
 module _ (p : Parameters) (t : ℕ) (o : Output) (h : Sound p t o) (runs : is_live o.slots slot6 ≡ true) (i : ℕ) (k : Slot i) where
   -- 'kind 02 of zero at P above 6 empties slots 6 and P'
-  pub zero_above : slot6 < i → Leaves o (written t o i 0) i none none Still
+  pub zero_above : slot6 < i → Leaves o (written t o i 0) i None None Still
   unfolding written written_warned ended_empty when◌then◌else◌
   zero_above l =
       rw (warned_by_lem p t o i 0 o.activity h.activity runs, leb_yes {a = 6} {b = i} l)
-      (put_leaves o i none h.slots.size k.inside k.free)
+      (put_leaves o i None h.slots.size k.inside k.free)
 
   -- 'of zero at P below 6 it empties slot 6 and stores'
-  pub zero_below : i < slot6 → Leaves o (written t o i 0) i none (some 0) Still
+  pub zero_below : i < slot6 → Leaves o (written t o i 0) i None (Some 0) Still
   unfolding written written_warned ended_stored when◌then◌else◌
   zero_below l =
       rw (warned_by_lem p t o i 0 o.activity h.activity runs, leb_no {a = 6} {b = i} (omega arith))
-      (put_leaves o i (some 0) h.slots.size k.inside k.free)
+      (put_leaves o i (Some 0) h.slots.size k.inside k.free)
 
   -- 'of non_zero it empties slot 6 and stores'
-  pub non_zero : (v : ℕ) → v ≢ 0 → Leaves o (written t o i v) i none (some v) Still
+  pub non_zero : (v : ℕ) → v ≢ 0 → Leaves o (written t o i v) i None (Some v) Still
   unfolding written written_warned ended_stored when◌then◌else◌
   non_zero v n =
       rw (warned_by_lem p t o i v o.activity h.activity runs, eqb_miss {a = v} {b = 0} n)
-      (put_leaves o i (some v) h.slots.size k.inside k.free)
+      (put_leaves o i (Some v) h.slots.size k.inside k.free)
 
   -- 'kind 03 leaves it running'
-  pub runs_on : Leaves o (slot_relinquished o i) i (slot o.slots slot6) none o.activity
+  pub runs_on : Leaves o (slot_relinquished o i) i (slot o.slots slot6) None o.activity
   unfolding slot_relinquished with_effect
   runs_on =
       record {
-        six = slot_other o.slots h.slots.size i slot6 none k.inside k.free;
-        own = slot_same o.slots h.slots.size i none k.inside;
-        rest = λ j y r. slot_other o.slots h.slots.size i j none k.inside (λ e. r (sym e));
+        six = slot_other o.slots h.slots.size i slot6 None k.inside k.free;
+        own = slot_same o.slots h.slots.size i None k.inside;
+        rest = λ j y r. slot_other o.slots h.slots.size i j None k.inside (λ e. r (sym e));
         activity = unchanged o.activity h.activity;
       }
     where

@@ -1,5 +1,6 @@
 -- A FADE AND A RAMP begin at the start level and end on the target at their length; between, they are where
 -- the paper's formula says.
+use Rattle.std.specs.Prelude.{None}
 use mathlib.Core.Path.{◌≡◌, refl, sym, ap, subst, ◌∙◌}
 use mathlib.Core.Logic.{◌≢◌}
 use Prim.Native.Nat.{ℕ, zero, suc, ◌+◌, ◌-◌, ◌*◌, ◌/◌, ◌≤◌, ◌<◌, min}
@@ -8,7 +9,6 @@ use native.Mathlib.Omega.{arith}
 use lib.Dec.{leb}
 use lib.Ieee.{Float}
 use lib.ListN.{length}
-use mathlib.Core.Option.{none}
 use Rattle.lighting_outputs.specs.Paper.Parameters.{Parameters}
 use Rattle.lighting_levels.specs.Paper.Choice.{when◌then◌else◌}
 use Rattle.lighting_levels.specs.Paper.Level.{level_units, amount_units, distance}
@@ -236,7 +236,7 @@ pub without_warning_size : (s : Slots) (a : Activity) → length (without_warnin
 unfolding without_warning
 without_warning_size s Still = refl
 without_warning_size s (Moving m) = refl
-without_warning_size s (Warned w) = put_size s slot6 none
+without_warning_size s (Warned w) = put_size s slot6 None
 
 -- 'If p is then the winner it replaces the movement': the four commands that move, to the target x
 module _ (p : Parameters) (t : ℕ) (o : Output) (k : Command) (h : Sound p t o) (good : OperationInRange p k.operation) (lasts : DurationInRange p k.duration)

@@ -1,5 +1,6 @@
 -- DOCUMENT 01'S OWN NUMBERS. The theorems hold for any set of parameters. At document 01's, of a panel of 64
 -- outputs, these are the numbers that they speak of, and that an engineer reads in the paper.
+use Rattle.std.specs.Prelude.{Some}
 use mathlib.Core.Path.{◌≡◌, refl}
 use mathlib.Core.List.{[], ◌∷◌}
 use mathlib.Core.Bool.{Bool}
@@ -21,7 +22,6 @@ use Rattle.lighting_outputs.specs.declared.Property.TheVariants.{FadeTime}
 use Rattle.lighting_outputs.specs.declared.Range.TheVariants.{Whole}
 use Rattle.lighting_outputs.specs.declared.Request.TheVariants.{Refuse, ToOutput}
 use Rattle.lighting_outputs.specs.declared.Settings.{Settings}
-use Rattle.lighting_outputs.specs.declared.TimeField.TheVariants.{Time}
 
 -- stations, outputs, the longest fade time and the longest duration; then the longest movement, the longest
 -- blink time and a fresh Fade_Time
@@ -41,7 +41,7 @@ module _ (outputs : ℕ) where
   pub fade_row : row_of (document01 outputs) FadeTime ≡ Whole 100 86400000
   fade_row = refl
 
-  pub fade_field : (fade : ℕ) → time_field_refusal (document01 outputs) (Time fade) ≡ (when within 100 86400000 fade then 0 else 12)
+  pub fade_field : (fade : ℕ) → time_field_refusal (document01 outputs) (Some fade) ≡ (when within 100 86400000 fade then 0 else 12)
   unfolding time_field_refusal meets
   fade_field fade = refl
 

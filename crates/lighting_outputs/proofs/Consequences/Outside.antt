@@ -1,4 +1,5 @@
 -- REALs OUT OF RANGE, row by row: which they are. They are refused, and no others.
+use Rattle.std.specs.Prelude.{Option, Some, None}
 use mathlib.Core.Path.{◌≡◌, refl}
 use mathlib.Core.Logic.{◌⊎◌, inl, inr}
 use mathlib.Core.Bool.{true, false}
@@ -12,8 +13,6 @@ use Rattle.lighting_outputs.specs.Paper.Parameters.{Parameters}
 use Rattle.lighting_levels.specs.Paper.Level.{from_to, level_in, level_of, real_from_to}
 use Rattle.lighting_outputs.specs.Paper.Rows.{row_of}
 use Rattle.lighting_outputs.specs.Paper.Properties.{numbered, property_of}
-use Rattle.lighting_levels.specs.declared.Level.{Level}
-use Rattle.lighting_levels.specs.declared.Level.TheVariants.{Units, OutOfRange}
 use Rattle.lighting_outputs.specs.declared.Range.{Range}
 use Rattle.lighting_outputs.specs.declared.Range.TheVariants.{Percent, Limit, Amount, Whole, Priority, ReadOnly}
 use Rattle.lighting_levels.proofs.Split.{by_bool, by_eq, by_le, by_lt, eqb_miss, leb_no}
@@ -50,19 +49,19 @@ unfolding property_of numbered when◌then◌else◌
 rows_with_a_real p = refl
 
 -- what is taken is not out of range
-taken : {A : Type 0} {v : ℕ} → ◌≡◌ {A = Level} (Units v) OutOfRange → A
+taken : {A : Type 0} {v : ℕ} → ◌≡◌ {A = Option ℕ} (Some v) None → A
 taken units = let never : ◌≡◌ {A = ℕ} 0 1 = cc in absurd (omega arith)
 
 -- the number a / c
 module _ (eighths a c : ℕ) where
-  from_outside : a * 8 < eighths * c ⊎ 100 * c < a → from_to eighths a c ≡ OutOfRange
+  from_outside : a * 8 < eighths * c ⊎ 100 * c < a → from_to eighths a c ≡ None
   unfolding when◌then◌else◌
   from_outside (inl low) = rw (leb_no {a = eighths * c} {b = a * 8} low)
   from_outside (inr high) =
       rw (leb_no {a = a} {b = 100 * c} high)
       (by_bool (leb (eighths * c) (a * 8)) (λ test. rw test) (λ test. rw test))
 
-  from_only : from_to eighths a c ≡ OutOfRange → a * 8 < eighths * c ⊎ 100 * c < a
+  from_only : from_to eighths a c ≡ None → a * 8 < eighths * c ⊎ 100 * c < a
   unfolding when◌then◌else◌
   from_only =
       by_le (eighths * c) (a * 8)
@@ -70,12 +69,12 @@ module _ (eighths a c : ℕ) where
       (λ low test. rw test (λ out. inl low))
 
 -- a level below 1 percent is raised, so that none from 0 to 100 is out of range
-level_outside : (a c : ℕ) → 100 * c < a → level_in a c ≡ OutOfRange
+level_outside : (a c : ℕ) → 100 * c < a → level_in a c ≡ None
 unfolding when◌then◌else◌
 level_outside a c high =
     rw (eqb_miss {a = a} {b = 0} (λ none. omega arith), leb_no {a = suc a} {b = c} (omega arith)) (from_outside 8 a c (inr high))
 
-level_only : (a c : ℕ) → level_in a c ≡ OutOfRange → 100 * c < a
+level_only : (a c : ℕ) → level_in a c ≡ None → 100 * c < a
 unfolding when◌then◌else◌
 level_only a c =
     by_eq a 0
@@ -88,14 +87,14 @@ level_only a c =
     above least (inr high) = high
 
 -- LIMITS, RATES AND STEPS
-pub amounts_refused : (eighths : ℕ) (x : Float) → NotFrom eighths x → real_from_to eighths x ≡ OutOfRange
+pub amounts_refused : (eighths : ℕ) (x : Float) → NotFrom eighths x → real_from_to eighths x ≡ None
 unfolding real_from_to
 amounts_refused eighths nan out = refl
 amounts_refused eighths (inf s) out = refl
 amounts_refused eighths (fin true m e) out = refl
 amounts_refused eighths (fin false m e) out = from_outside eighths (m * up e) (down e) out
 
-pub amounts_only : (eighths : ℕ) (x : Float) → real_from_to eighths x ≡ OutOfRange → NotFrom eighths x
+pub amounts_only : (eighths : ℕ) (x : Float) → real_from_to eighths x ≡ None → NotFrom eighths x
 unfolding real_from_to
 amounts_only eighths nan out = tt
 amounts_only eighths (inf s) out = tt
@@ -103,14 +102,14 @@ amounts_only eighths (fin true m e) out = tt
 amounts_only eighths (fin false m e) out = from_only eighths (m * up e) (down e) out
 
 -- LEVELS
-pub levels_refused : (x : Float) → NoLevel x → level_of x ≡ OutOfRange
+pub levels_refused : (x : Float) → NoLevel x → level_of x ≡ None
 unfolding level_of when◌then◌else◌
 levels_refused nan out = refl
 levels_refused (inf s) out = refl
 levels_refused (fin true m e) out = rw (eqb_miss {a = m * up e} {b = 0} (λ none. omega arith))
 levels_refused (fin false m e) out = level_outside (m * up e) (down e) out
 
-pub levels_only : (x : Float) → level_of x ≡ OutOfRange → NoLevel x
+pub levels_only : (x : Float) → level_of x ≡ None → NoLevel x
 unfolding level_of when◌then◌else◌
 levels_only nan = λ out. tt
 levels_only (inf s) = λ out. tt

@@ -1,9 +1,9 @@
 -- KIND 05, by the property's NUMBER: what each of 01 to 14, 17 to 1B and 21 to 30 reads as, of every output
 -- at every time, to a service station and to a tenant (§8).
+use Rattle.std.specs.Prelude.{Option, Some, None}
 use mathlib.Core.Path.{◌≡◌, refl}
 use mathlib.Core.Bool.{Bool, true, false, not}
 use mathlib.Core.List.{[], ◌∷◌, map}
-use mathlib.Core.Option.{Option, none, some}
 use Prim.Native.Nat.{ℕ, ◌+◌, ◌*◌, ◌/◌, ◌≤◌, ◌<◌}
 use native.Mathlib.Omega.{arith}
 use native.Mathlib.Nat.{add-sub_cancel_left}
@@ -130,8 +130,8 @@ read_none tenant t o = refl
 
 -- '21 to 30 slots 1 to 16 (Absent if not live)'
 abbrev slot_as : Option ℕ → Answer
-slot_as none = Absent
-slot_as (some v) = Value (read_out v)
+slot_as None = Absent
+slot_as (Some v) = Value (read_out v)
 
 slot_number : (i : ℕ) → i < slot_count → property_of (0x21 + i) ≡ SlotValue i
 unfolding property_of when◌then◌else◌
@@ -147,8 +147,8 @@ unfolding acted unchanged read_property hidden slot_answer when◌then◌else◌
 read_slots t o i h = rw (slot_number i h) (by (slot o.slots i))
   where
     by : (x : Option ℕ) → level_or_absent x ≡ slot_as x
-    by none = unfold level_or_absent in refl
-    by (some v) = unfold level_or_absent level_answer in refl
+    by None = unfold level_or_absent in refl
+    by (Some v) = unfold level_or_absent level_answer in refl
 
 -- 'A tenant reading slots 1 to 6 gets Absent' (§8), live or not; slots 7 to 16 it reads as anyone
 pub hides : (i : ℕ) → i < 6 → hidden for_tenant i ≡ true

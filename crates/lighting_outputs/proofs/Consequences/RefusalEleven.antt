@@ -1,5 +1,6 @@
 -- REFUSAL 11 OF A PROPERTY'S WRITE, over the rows: exactly where the REAL is out of its row's range the
 -- answer is 11, and everything is left.
+use Rattle.std.specs.Prelude.{Option, Some, None}
 use mathlib.Core.Path.{◌≡◌, refl}
 use mathlib.Core.Bool.{false}
 use Prim.Native.Nat.{ℕ}
@@ -13,8 +14,6 @@ use Rattle.lighting_outputs.specs.Paper.Properties.{change_to, change_by, change
 use Rattle.lighting_outputs.specs.Paper.Relay.{inactive_not_below}
 use Rattle.lighting_outputs.specs.Paper.Acting.{done, unchanged, changed_unless, acted, served}
 use Rattle.lighting_outputs.specs.declared.Answer.TheVariants.{Refused}
-use Rattle.lighting_levels.specs.declared.Level.{Level}
-use Rattle.lighting_levels.specs.declared.Level.TheVariants.{Units, OutOfRange}
 use Rattle.lighting_outputs.specs.declared.Output.{Output}
 use Rattle.lighting_outputs.specs.declared.Property.{Property}
 use Rattle.lighting_outputs.specs.declared.Range.{Range}
@@ -35,9 +34,9 @@ amount_only : (x : Float) → is_amount x ≡ false → NotFrom 1 x
 unfolding is_amount amount_of
 amount_only x refused = amounts_only 1 x (by (real_from_to 1 x) refused)
   where
-    by : (level : Level) → in_range level ≡ false → level ≡ OutOfRange
-    by (Units v) refused' = let never : ◌≡◌ {A = ℕ} 0 1 = (unfold in_range in cc) in absurd (omega arith)
-    by OutOfRange refused' = refl
+    by : (level : Option ℕ) → in_range level ≡ false → level ≡ None
+    by (Some v) refused' = let never : ◌≡◌ {A = ℕ} 0 1 = (unfold in_range in cc) in absurd (omega arith)
+    by None refused' = refl
 
 -- OUT OF RANGE, IT IS 11: of the value written, its pattern
 asks_eleven : (row : Range) (property : Property) (pattern : ℕ) → Outside row (real pattern) → change_by row property pattern ≡ Refuse 11
@@ -74,10 +73,10 @@ module _ (t : ℕ) (o : Output) where
       (λ test'. rw test' (λ answer. let never : ◌≡◌ {A = ℕ} 16 11 = cc in omega arith))
       (λ test'. rw test' (λ answer. let never : ◌≡◌ {A = ℕ} 0 1 = cc in omega arith))))
 
-  by_level : (property : Property) (level : Level) → (alone t o (change_to property level)).answer ≡ Refused 11 → level ≡ OutOfRange
+  by_level : (property : Property) (level : Option ℕ) → (alone t o (change_to property level)).answer ≡ Refused 11 → level ≡ None
   unfolding change_to
-  by_level property (Units v) answer = absurd (changed_other property v answer)
-  by_level property OutOfRange answer = refl
+  by_level property (Some v) answer = absurd (changed_other property v answer)
+  by_level property None answer = refl
 
   by_row : (row : Range) (property : Property) (pattern : ℕ) → (alone t o (change_by row property pattern)).answer ≡ Refused 11
       → Outside row (real pattern)

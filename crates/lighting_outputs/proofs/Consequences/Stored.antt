@@ -1,9 +1,9 @@
 -- KINDS 02 AND 03 without a warning: what is stored, and which movement goes on; and what Present_Value
 -- becomes.
+use Rattle.std.specs.Prelude.{Some, None}
 use mathlib.Core.Path.{◌≡◌, sym, ◌∙◌}
 use mathlib.Core.Logic.{◌≢◌}
 use mathlib.Core.Bool.{true, false}
-use mathlib.Core.Option.{none, some}
 use Prim.Native.Nat.{ℕ, suc, ◌≤◌, ◌<◌}
 use native.Mathlib.Omega.{arith}
 use Rattle.lighting_outputs.specs.Paper.Parameters.{Parameters}
@@ -40,13 +40,13 @@ module _ (p : Parameters) (t : ℕ) (o : Output) (h : Sound p t o) (calm : is_li
       (λ y e. rw e (by_bool (warns o.settings o.slots i) (λ w. absurd (n (warns_starts o.settings o.slots i h.slots.size k.inside w))) (λ w. rw (w, y))))
       (λ y e. rw e))
 
-  pub stores : (v : ℕ) → Plainly v → slot (written t o i v).slots i ≡ some v
+  pub stores : (v : ℕ) → Plainly v → slot (written t o i v).slots i ≡ Some v
   unfolding stored with_effect
-  stores v n = rw (store v n) (slot_same o.slots h.slots.size i (some v) k.inside)
+  stores v n = rw (store v n) (slot_same o.slots h.slots.size i (Some v) k.inside)
 
   pub stores_rest : (v : ℕ) → Plainly v → (j : ℕ) → j ≢ i → slot (written t o i v).slots j ≡ slot o.slots j
   unfolding stored with_effect
-  stores_rest v n j m = rw (store v n) (slot_other o.slots h.slots.size i j (some v) k.inside (λ e. m (sym e)))
+  stores_rest v n j m = rw (store v n) (slot_other o.slots h.slots.size i j (Some v) k.inside (λ e. m (sym e)))
 
   -- 'A movement goes on if P is above its owner's number [..]; else it ends'
   pub goes_on : (v : ℕ) → Plainly v → (m : Movement) → o.activity ≡ Moving m → m.owner < i → (written t o i v).activity ≡ Moving m
@@ -59,13 +59,13 @@ module _ (p : Parameters) (t : ℕ) (o : Output) (h : Sound p t o) (calm : is_li
 
 -- KIND 03
 module _ (p : Parameters) (t : ℕ) (o : Output) (h : Sound p t o) (i : ℕ) (k : Slot i) where
-  pub empties : slot (slot_relinquished o i).slots i ≡ none
+  pub empties : slot (slot_relinquished o i).slots i ≡ None
   unfolding slot_relinquished with_effect
-  empties = slot_same o.slots h.slots.size i none k.inside
+  empties = slot_same o.slots h.slots.size i None k.inside
 
   pub empties_rest : (j : ℕ) → j ≢ i → slot (slot_relinquished o i).slots j ≡ slot o.slots j
   unfolding slot_relinquished with_effect
-  empties_rest j m = slot_other o.slots h.slots.size i j none k.inside (λ e. m (sym e))
+  empties_rest j m = slot_other o.slots h.slots.size i j None k.inside (λ e. m (sym e))
 
   -- 'or if kind 03 empties an empty slot'
   pub empty_goes_on : is_live o.slots i ≡ false → (slot_relinquished o i).activity ≡ o.activity
@@ -81,12 +81,12 @@ module _ (p : Parameters) (t : ℕ) (o : Output) (h : Sound p t o) (i : ℕ) (k 
   emptied_breaks_off m e l f = rw (e, f, leb_no {a = suc m.owner} {b = i} (omega arith))
 
   -- PRESENT_VALUE becomes the next live slot's, or Relinquish_Default's
-  pub emptied_shows : (j v : ℕ) → j ≢ i → slot o.slots j ≡ some v → ((q : ℕ) → q < j → q ≢ i → slot o.slots q ≡ none)
+  pub emptied_shows : (j v : ℕ) → j ≢ i → slot o.slots j ≡ Some v → ((q : ℕ) → q < j → q ≢ i → slot o.slots q ≡ None)
       → present_value (slot_relinquished o i).settings (slot_relinquished o i).slots ≡ clamp_lit o.settings v
   unfolding slot_relinquished with_effect
   emptied_shows j v n s b = next_live o.slots h.slots.size o.settings i k.inside j v n s b
 
-  pub emptied_shows_default : ((q : ℕ) → q < slot_count → q ≢ i → slot o.slots q ≡ none)
+  pub emptied_shows_default : ((q : ℕ) → q < slot_count → q ≢ i → slot o.slots q ≡ None)
       → present_value (slot_relinquished o i).settings (slot_relinquished o i).slots ≡ clamp_lit o.settings o.settings.default
   unfolding slot_relinquished with_effect
   emptied_shows_default b = none_live o.slots h.slots.size o.settings i k.inside b
@@ -96,7 +96,7 @@ module _ (p : Parameters) (t : ℕ) (o : Output) (h : Sound p t o) (d : Duration
   abbrev y : ℕ
   y = o.settings.slot
 
-  pub relinquished_shows : (j v : ℕ) → j ≢ y → j ≢ slot6 → slot o.slots j ≡ some v → ((q : ℕ) → q < j → q ≢ y → q ≢ slot6 → slot o.slots q ≡ none)
+  pub relinquished_shows : (j v : ℕ) → j ≢ y → j ≢ slot6 → slot o.slots j ≡ Some v → ((q : ℕ) → q < j → q ≢ y → q ≢ slot6 → slot o.slots q ≡ None)
       → present_value (after t o Relinquish d).settings (after t o Relinquish d).slots ≡ clamp_lit o.settings v
   relinquished_shows j v n m s b =
       rw (relinquish p t o h d).settings
@@ -105,7 +105,7 @@ module _ (p : Parameters) (t : ℕ) (o : Output) (h : Sound p t o) (d : Duration
       (λ q l. by_eq q y (λ e z. rw e (relinquish p t o h d).own)
       (λ e z. by_eq q slot6 (λ e' z'. rw e' (relinquish p t o h d).six) (λ e' z'. (relinquish p t o h d).rest q e' e ∙ b q l e e'))))
 
-  pub relinquished_shows_default : ((q : ℕ) → q < slot_count → q ≢ y → q ≢ slot6 → slot o.slots q ≡ none)
+  pub relinquished_shows_default : ((q : ℕ) → q < slot_count → q ≢ y → q ≢ slot6 → slot o.slots q ≡ None)
       → present_value (after t o Relinquish d).settings (after t o Relinquish d).slots ≡ clamp_lit o.settings o.settings.default
   relinquished_shows_default b =
       rw (relinquish p t o h d).settings

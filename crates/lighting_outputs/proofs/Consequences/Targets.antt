@@ -1,8 +1,8 @@
 -- WHAT A COMMAND LEAVES IN THE SLOTS: in slot p what its operation says, slot 6 empty, every other slot as it
 -- was.
+use Rattle.std.specs.Prelude.{Option, Some, None}
 use mathlib.Core.Path.{◌≡◌, refl, sym, ap, ◌∙◌}
 use mathlib.Core.Logic.{◌≢◌}
-use mathlib.Core.Option.{Option, none, some}
 use Prim.Native.Nat.{ℕ, ◌+◌, ◌-◌, ◌<◌, min, max}
 use native.Mathlib.Omega.{arith}
 use lib.Ieee.{Float}
@@ -37,23 +37,23 @@ after t o k d = commanded t o (record { operation = k; duration = d })
 -- slot 6 is empty, slot p is x, every other slot as it was; what the command does not speak of stays
 pub record Sets (o o' : Output) (y : ℕ) (x : Option ℕ) : Type 0 where
   pub own : slot o'.slots y ≡ x
-  pub six : slot o'.slots slot6 ≡ none
+  pub six : slot o'.slots slot6 ≡ None
   pub rest : (j : ℕ) → j ≢ slot6 → j ≢ y → slot o'.slots j ≡ slot o.slots j
   pub settings : o'.settings ≡ o.settings
   pub burning : o'.burning ≡ o.burning
 
 -- a warning's end
-without_warning_six : (p : Parameters) (t : ℕ) (c : Settings) (s : Slots) (a : Activity) → length s.levels ≡ slot_count → Acts p t c s a → slot (without_warning s a) slot6 ≡ none
+without_warning_six : (p : Parameters) (t : ℕ) (c : Settings) (s : Slots) (a : Activity) → length s.levels ≡ slot_count → Acts p t c s a → slot (without_warning s a) slot6 ≡ None
 unfolding without_warning
 without_warning_six p t c s Still z h = dead_slot s slot6 z (omega arith) h
 without_warning_six p t c s (Moving m) z h = dead_slot s slot6 z (omega arith) h.six
-without_warning_six p t c s (Warned w) z h = slot_same s z slot6 none (omega arith)
+without_warning_six p t c s (Warned w) z h = slot_same s z slot6 None (omega arith)
 
 without_warning_rest : (s : Slots) (a : Activity) (j : ℕ) → length s.levels ≡ slot_count → j ≢ slot6 → slot (without_warning s a) j ≡ slot s j
 unfolding without_warning
 without_warning_rest s Still j z n = refl
 without_warning_rest s (Moving m) j z n = refl
-without_warning_rest s (Warned w) j z n = slot_other s z slot6 j none (omega arith) (λ e. n (sym e))
+without_warning_rest s (Warned w) j z n = slot_other s z slot6 j None (omega arith) (λ e. n (sym e))
 
 -- STOP, and RELINQUISH's movement, of what was under way
 abbrev pub NotMoving : Activity → Type 0
@@ -131,65 +131,65 @@ module _ (p : Parameters) (t : ℕ) (o : Output) (h : Sound p t o) (d : Duration
       }
 
   -- 'A target is brought into Min..Max if above zero and put in slot p'
-  pub goto : (x : Float) → Sets o (after t o (Goto x) d) y (some (clamp_lit o.settings (level_units x)))
-  goto x = puts (Goto x) (some _) (unfold effect went_to jumped placed target in refl)
+  pub goto : (x : Float) → Sets o (after t o (Goto x) d) y (Some (clamp_lit o.settings (level_units x)))
+  goto x = puts (Goto x) (Some _) (unfold effect went_to jumped placed target in refl)
 
-  pub fade_to : (x : Float) → Sets o (after t o (FadeTo x) d) y (some (clamp_lit o.settings (level_units x)))
-  fade_to x = puts (FadeTo x) (some _) (unfold effect faded_to faded_over placed target in refl)
+  pub fade_to : (x : Float) → Sets o (after t o (FadeTo x) d) y (Some (clamp_lit o.settings (level_units x)))
+  fade_to x = puts (FadeTo x) (Some _) (unfold effect faded_to faded_over placed target in refl)
 
-  pub fade_to_over : (x : Float) (l : ℕ) → Sets o (after t o (FadeToOver x l) d) y (some (clamp_lit o.settings (level_units x)))
-  fade_to_over x l = puts (FadeToOver x l) (some _) (unfold effect faded_to faded_over placed target in refl)
+  pub fade_to_over : (x : Float) (l : ℕ) → Sets o (after t o (FadeToOver x l) d) y (Some (clamp_lit o.settings (level_units x)))
+  fade_to_over x l = puts (FadeToOver x l) (Some _) (unfold effect faded_to faded_over placed target in refl)
 
-  pub ramp_to : (x : Float) → Sets o (after t o (RampTo x) d) y (some (clamp_lit o.settings (level_units x)))
-  ramp_to x = puts (RampTo x) (some _) (unfold effect ramped_to ramped_at placed target in refl)
+  pub ramp_to : (x : Float) → Sets o (after t o (RampTo x) d) y (Some (clamp_lit o.settings (level_units x)))
+  ramp_to x = puts (RampTo x) (Some _) (unfold effect ramped_to ramped_at placed target in refl)
 
-  pub ramp_to_at_rate : (x r : Float) → Sets o (after t o (RampToAtRate x r) d) y (some (clamp_lit o.settings (level_units x)))
-  ramp_to_at_rate x r = puts (RampToAtRate x r) (some _) (unfold effect ramped_to ramped_at placed target in refl)
+  pub ramp_to_at_rate : (x r : Float) → Sets o (after t o (RampToAtRate x r) d) y (Some (clamp_lit o.settings (level_units x)))
+  ramp_to_at_rate x r = puts (RampToAtRate x r) (Some _) (unfold effect ramped_to ramped_at placed target in refl)
 
   -- 'Step up: s plus step; step down: s minus step, not below 0; both brought into Min..Max. Step down from s
   -- = 0 stays 0'
-  pub step_up : Sets o (after t o StepUp d) y (some (min o.settings.max (max o.settings.min (progress_value t o + amount_units o.settings.step))))
-  step_up = puts StepUp (some _) (unfold effect stepped_up jumped placed step_up_from in refl)
+  pub step_up : Sets o (after t o StepUp d) y (Some (min o.settings.max (max o.settings.min (progress_value t o + amount_units o.settings.step))))
+  step_up = puts StepUp (Some _) (unfold effect stepped_up jumped placed step_up_from in refl)
 
-  pub step_up_by : (x : Float) → Sets o (after t o (StepUpBy x) d) y (some (min o.settings.max (max o.settings.min (progress_value t o + amount_units x))))
-  step_up_by x = puts (StepUpBy x) (some _) (unfold effect stepped_up jumped placed step_up_from in refl)
+  pub step_up_by : (x : Float) → Sets o (after t o (StepUpBy x) d) y (Some (min o.settings.max (max o.settings.min (progress_value t o + amount_units x))))
+  step_up_by x = puts (StepUpBy x) (Some _) (unfold effect stepped_up jumped placed step_up_from in refl)
 
   pub step_down : progress_value t o ≢ 0
-      → Sets o (after t o StepDown d) y (some (min o.settings.max (max o.settings.min (progress_value t o - amount_units o.settings.step))))
-  step_down n = puts StepDown (some _) (unfold effect stepped_down jumped placed step_down_from when◌then◌else◌ in (rw (eqb_miss {a = progress_value t o} {b = 0} n)))
+      → Sets o (after t o StepDown d) y (Some (min o.settings.max (max o.settings.min (progress_value t o - amount_units o.settings.step))))
+  step_down n = puts StepDown (Some _) (unfold effect stepped_down jumped placed step_down_from when◌then◌else◌ in (rw (eqb_miss {a = progress_value t o} {b = 0} n)))
 
   pub step_down_by : (x : Float) → progress_value t o ≢ 0
-      → Sets o (after t o (StepDownBy x) d) y (some (min o.settings.max (max o.settings.min (progress_value t o - amount_units x))))
+      → Sets o (after t o (StepDownBy x) d) y (Some (min o.settings.max (max o.settings.min (progress_value t o - amount_units x))))
   step_down_by x n =
-      puts (StepDownBy x) (some _) (unfold effect stepped_down jumped placed step_down_from when◌then◌else◌ in (rw (eqb_miss {a = progress_value t o} {b = 0} n)))
+      puts (StepDownBy x) (Some _) (unfold effect stepped_down jumped placed step_down_from when◌then◌else◌ in (rw (eqb_miss {a = progress_value t o} {b = 0} n)))
 
-  pub step_down_dark : progress_value t o ≡ 0 → Sets o (after t o StepDown d) y (some 0)
-  step_down_dark e = puts StepDown (some _) (unfold effect stepped_down jumped placed step_down_from when◌then◌else◌ in (rw (eqb_hit {a = progress_value t o} {b = 0} e)))
+  pub step_down_dark : progress_value t o ≡ 0 → Sets o (after t o StepDown d) y (Some 0)
+  step_down_dark e = puts StepDown (Some _) (unfold effect stepped_down jumped placed step_down_from when◌then◌else◌ in (rw (eqb_hit {a = progress_value t o} {b = 0} e)))
 
-  pub step_down_by_dark : (x : Float) → progress_value t o ≡ 0 → Sets o (after t o (StepDownBy x) d) y (some 0)
+  pub step_down_by_dark : (x : Float) → progress_value t o ≡ 0 → Sets o (after t o (StepDownBy x) d) y (Some 0)
   step_down_by_dark x e =
-      puts (StepDownBy x) (some _) (unfold effect stepped_down jumped placed step_down_from when◌then◌else◌ in (rw (eqb_hit {a = progress_value t o} {b = 0} e)))
+      puts (StepDownBy x) (Some _) (unfold effect stepped_down jumped placed step_down_from when◌then◌else◌ in (rw (eqb_hit {a = progress_value t o} {b = 0} e)))
 
   -- 'RELINQUISH empties slot p'
-  pub relinquish : Sets o (after t o Relinquish d) y none
-  relinquish = puts Relinquish none (unfold effect relinquished in refl)
+  pub relinquish : Sets o (after t o Relinquish d) y None
+  relinquish = puts Relinquish None (unfold effect relinquished in refl)
 
   -- 'STOP: if a movement belongs to p, it ends and slot p gets the reached level, raised to Min if above
   -- zero'
   stop_by : (m : Movement) (v : ℕ) → o.activity ≡ Moving m → m.owner ≡ y → raised o.settings (progress_value t o) ≡ v
-      → Sets o (after t o Stop d) y (some v) × ((after t o Stop d).activity ≡ Still)
+      → Sets o (after t o Stop d) y (Some v) × ((after t o Stop d).activity ≡ Still)
   stop_by m v e w r =
       let q = stop_own t o.settings (progress_value t o) before o.activity m e w in (
-        puts Stop (some v) (ap (λ (k : Effect). k.slots) q ∙ (unfold halted in (rw r))),
+        puts Stop (Some v) (ap (λ (k : Effect). k.slots) q ∙ (unfold halted in (rw r))),
         unfold commanded commanded_from with_command in (ap (λ (k : Effect). k.activity) q ∙ (unfold halted in refl)),
       )
 
   pub stop_lit : (m : Movement) → o.activity ≡ Moving m → m.owner ≡ y → progress_value t o ≢ 0
-      → Sets o (after t o Stop d) y (some (max o.settings.min (progress_value t o))) × ((after t o Stop d).activity ≡ Still)
+      → Sets o (after t o Stop d) y (Some (max o.settings.min (progress_value t o))) × ((after t o Stop d).activity ≡ Still)
   stop_lit m e w n = stop_by m _ e w (unfold raised when◌then◌else◌ in (rw (eqb_miss {a = progress_value t o} {b = 0} n)))
 
   pub stop_dark : (m : Movement) → o.activity ≡ Moving m → m.owner ≡ y → progress_value t o ≡ 0
-      → Sets o (after t o Stop d) y (some 0) × ((after t o Stop d).activity ≡ Still)
+      → Sets o (after t o Stop d) y (Some 0) × ((after t o Stop d).activity ≡ Still)
   stop_dark m e w n = stop_by m _ e w (unfold raised when◌then◌else◌ in (rw (eqb_hit {a = progress_value t o} {b = 0} n)))
 
   -- 'Else it changes no slot, a warning's end aside', and another slot's movement goes on

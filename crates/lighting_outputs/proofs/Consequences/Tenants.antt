@@ -1,9 +1,9 @@
 -- TENANT STATIONS (§8): what a tenant's frames do and are answered, what whole percent is, and that two
 -- outputs which are alike in all of Learnt.antt read the same to a tenant.
+use Rattle.std.specs.Prelude.{Option, None}
 use mathlib.Core.Path.{◌≡◌, refl, sym, ap, ◌∙◌}
 use mathlib.Core.Bool.{Bool}
 use mathlib.Core.List.{List, [], ◌∷◌, ◌++◌, map}
-use mathlib.Core.Option.{Option, none}
 use Prim.Native.Nat.{ℕ, ◌+◌, ◌-◌, ◌*◌, ◌/◌, ◌≤◌, ◌<◌}
 use native.Mathlib.Omega.{arith}
 use lib.Seq.{get_or-drop}
@@ -87,16 +87,16 @@ exact t o = refl
 -- ALIKE IN ALL THAT A TENANT MAY LEARN, two outputs read the same to it, whatever it asks for. Slots 1 to 6,
 -- what is under way, durations and warnings are free to differ
 module _ (t : ℕ) (o o' : Output) (alike : (what : Learnt) → AlikeIn what t o o') where
-  past_six : (i : ℕ) (l : List (Option ℕ)) → 6 ≤ i → get_or (drop 6 l) (i - 6) none ≡ get_or l i none
+  past_six : (i : ℕ) (l : List (Option ℕ)) → 6 ≤ i → get_or (drop 6 l) (i - 6) None ≡ get_or l i None
   past_six i l above =
-      let place : 6 + (i - 6) ≡ i = omega arith in get_or-drop 6 l (i - 6) none ∙ ap (λ (j : ℕ). get_or l j none) place
+      let place : 6 + (i - 6) ≡ i = omega arith in get_or-drop 6 l (i - 6) None ∙ ap (λ (j : ℕ). get_or l j None) place
 
   slot_same : (i : ℕ) → 6 ≤ i → slot_answer o.slots i ≡ slot_answer o'.slots i
   unfolding slot_answer
   slot_same i above =
       ap level_or_absent
       (sym (past_six i (slots_of o.slots) above)
-      ∙ ap (λ (l : List (Option ℕ)). get_or l (i - 6) none) (alike the_slots)
+      ∙ ap (λ (l : List (Option ℕ)). get_or l (i - 6) None) (alike the_slots)
       ∙ past_six i (slots_of o'.slots) above)
 
   pub alike_reads : (property : Property)

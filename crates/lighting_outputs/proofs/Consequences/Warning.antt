@@ -1,10 +1,10 @@
 -- A WARNING'S WHOLE COURSE, for all B, D, X and Y: what Present_Value and slots 6 and X are at every moment
 -- from its start on, if no frame comes and no duration falls due.
+use Rattle.std.specs.Prelude.{Option, Some, None}
 use mathlib.Core.Path.{◌≡◌, refl, sym, ap, subst, ◌∙◌}
 use mathlib.Core.Logic.{◌≢◌}
 use mathlib.Core.Bool.{true, false, true≢false}
 use mathlib.Core.List.{List, [], ◌∷◌}
-use mathlib.Core.Option.{Option, none, some}
 use Prim.Native.Nat.{ℕ, zero, suc, ◌+◌, ◌-◌, ◌≤◌, ◌<◌}
 use native.Mathlib.Omega.{arith}
 use lib.ListN.{get_or, length}
@@ -36,21 +36,21 @@ use Rattle.lighting_outputs.proofs.Consequences.Present.{no_slot, slot_same, slo
 
 -- 'zero or empty'
 abbrev pub Unlit : Option ℕ → Type 0
-Unlit none = Unit {0}
-Unlit (some v) = v ≡ 0
+Unlit None = Unit {0}
+Unlit (Some v) = v ≡ 0
 
-first_zero_or_empty : (l : List (Option ℕ)) → ((i : ℕ) → i < length l → Unlit (get_or l i none)) → Winning.first_level 0 l ≡ 0
+first_zero_or_empty : (l : List (Option ℕ)) → ((i : ℕ) → i < length l → Unlit (get_or l i None)) → Winning.first_level 0 l ≡ 0
 unfolding Winning.first_level
 first_zero_or_empty [] k = refl
-first_zero_or_empty (none ∷ l) k = first_zero_or_empty l (λ i m. k (suc i) (omega arith))
-first_zero_or_empty (some v ∷ l) k = k 0 (omega arith)
+first_zero_or_empty (None ∷ l) k = first_zero_or_empty l (λ i m. k (suc i) (omega arith))
+first_zero_or_empty (Some v ∷ l) k = k 0 (omega arith)
 
 -- THE PAPER'S CONDITIONS on the slots s, with Present_Value y, for a zero at slot x; slots are counted from 0
 pub record Starts (c : Settings) (s : Slots) (x : ℕ) : Type 0 where
   pub own : 6 ≤ x
   pub enabled : c.enable ≡ true
   pub lasts : 0 < c.blink + c.delay
-  pub below : (i : ℕ) → i < x → slot s i ≡ none
+  pub below : (i : ℕ) → i < x → slot s i ≡ None
   pub lit : 0 < present_value c s
   pub default : c.default ≡ 0
   pub above : (i : ℕ) → x < i → i < slot_count → Unlit (slot s i)
@@ -82,18 +82,18 @@ put_own {z = z} {x = x} w k n h =
 
 module _ (c : Settings) (s : Slots) (x : ℕ) (starts : Starts c s x) where
   -- while slot 6 is live it is the winner
-  present_six : {w : ℕ} {b : Option ℕ} (z : Slots) → State s x (some w) b z → present_value c z ≡ clamp_lit c w
+  present_six : {w : ℕ} {b : Option ℕ} (z : Slots) → State s x (Some w) b z → present_value c z ≡ clamp_lit c w
   present_six {w} z h =
       present_at z h.size c slot6 w h.six
       (λ i m. h.rest i (λ e. omega arith) (λ e. omega (arith, starts.own)) ∙ starts.below i (omega (arith, starts.own)))
 
   -- when it is empty, and slot x is zero or empty, nothing is lit
-  present_over : {b : Option ℕ} (z : Slots) → Unlit b → State s x none b z → present_value c z ≡ 0
+  present_over : {b : Option ℕ} (z : Slots) → Unlit b → State s x None b z → present_value c z ≡ 0
   unfolding present_value
   present_over {b} z u h =
       rw (winning_level_view c.default z h.size, starts.default, first_zero_or_empty (slots_of z) unlit) (unfold clamp_lit when◌then◌else◌ in refl)
     where
-      unlit : (i : ℕ) → i < length (slots_of z) → Unlit (get_or (slots_of z) i none)
+      unlit : (i : ℕ) → i < length (slots_of z) → Unlit (get_or (slots_of z) i None)
       unlit i m =
           by_eq i slot6
           (λ e t. rw (e, h.six) tt)
@@ -165,10 +165,10 @@ module _ (c : Settings) (s : Slots) (x y : ℕ) (starts : Starts c s x) (inside 
   distance_six e = omega (arith, starts.own)
 
   -- what is seen of slots in a known state
-  seen_lit : {w : ℕ} {b : Option ℕ} (v : ℕ) (o : Output) → clamp_lit c w ≡ v → o.settings ≡ c → State s x (some w) b o.slots → Seen c s x (some w) b v o
+  seen_lit : {w : ℕ} {b : Option ℕ} (v : ℕ) (o : Output) → clamp_lit c w ≡ v → o.settings ≡ c → State s x (Some w) b o.slots → Seen c s x (Some w) b v o
   seen_lit v o e z' h = record { settings = z'; slots = h; present = rw z' (present_six c s x starts o.slots h ∙ e) }
 
-  seen_over : {b : Option ℕ} (o : Output) → Unlit b → o.settings ≡ c → State s x none b o.slots → Seen c s x none b 0 o
+  seen_over : {b : Option ℕ} (o : Output) → Unlit b → o.settings ≡ c → State s x None b o.slots → Seen c s x None b 0 o
   seen_over o u z' h = record { settings = z'; slots = h; present = rw z' (present_over c s x starts o.slots u h) }
 
   later : {a b : Option ℕ} {v : ℕ} (n d t : ℕ) (o : Output) → d ≤ n → Seen c s x a b v (ticks (n - d) (t + d) (ticks d t o)) → Seen c s x a b v (ticks n t o)
@@ -180,12 +180,12 @@ module _ (c : Settings) (s : Slots) (x y : ℕ) (starts : Starts c s x) (inside 
 
   module _ (t : ℕ) (o : Output) where
     -- the second: slot 6 holds Y for D ms, then both slots are empty
-    delaying : (n d u : ℕ) → o.activity ≡ warning_in Delay x y u (t + d) → Seen c s x (some y) (some 0) y o → TimerAfter (t + n) o.timer → n < d
-        → Seen c s x (some y) (some 0) y (ticks n t o)
+    delaying : (n d u : ℕ) → o.activity ≡ warning_in Delay x y u (t + d) → Seen c s x (Some y) (Some 0) y o → TimerAfter (t + n) o.timer → n < d
+        → Seen c s x (Some y) (Some 0) y (ticks n t o)
     delaying n d u e h a l = waits n t o (both_after (t + n) o a (rw e (unfold activity_due phase_end in (omega arith)))) h
 
-    ended : (n d u : ℕ) → 0 < d → o.activity ≡ warning_in Delay x y u (t + d) → Seen c s x (some y) (some 0) y o → TimerAfter (t + n) o.timer → d ≤ n
-        → Seen c s x none none 0 (ticks n t o)
+    ended : (n d u : ℕ) → 0 < d → o.activity ≡ warning_in Delay x y u (t + d) → Seen c s x (Some y) (Some 0) y o → TimerAfter (t + n) o.timer → d ≤ n
+        → Seen c s x None None 0 (ticks n t o)
     unfolding with_burned with_burning
     ended n d u z' e h a l =
         let q : After (t + (d - 1)) o = both_after (t + (d - 1)) o (timer_earlier o.timer (omega arith) a) (rw e (unfold activity_due phase_end in (omega arith))) in
@@ -194,12 +194,12 @@ module _ (c : Settings) (s : Slots) (x y : ℕ) (starts : Starts c s x) (inside 
         later n d t o l
         (waits (n - d) (t + d) (ticks d t o)
         (both_after (t + d + (n - d)) (ticks d t o) (timer_at_lem (t + d + (n - d)) o.timer (ticks d t o).timer r.timer (omega arith) a) (rw r.activity (unfold activity_due in tt)))
-        (seen_over (ticks d t o) tt (r.settings ∙ h.settings) (rw r.slots (put_own none inside distance_six (put_six none distance_six h.slots)))))
+        (seen_over (ticks d t o) tt (r.settings ∙ h.settings) (rw r.slots (put_own None inside distance_six (put_six None distance_six h.slots)))))
 
     -- the first: slot 6 holds 0 for B ms, then comes the second, or without D the end, at which slot x keeps
     -- its 0
-    module _ (b d : ℕ) (z' : 0 < b) (e : o.activity ≡ warning_in Blink x y (t + b) (t + b + d)) (h : Seen c s x (some 0) (some 0) 0 o) where
-      blinking : (n : ℕ) → TimerAfter (t + n) o.timer → n < b → Seen c s x (some 0) (some 0) 0 (ticks n t o)
+    module _ (b d : ℕ) (z' : 0 < b) (e : o.activity ≡ warning_in Blink x y (t + b) (t + b + d)) (h : Seen c s x (Some 0) (Some 0) 0 o) where
+      blinking : (n : ℕ) → TimerAfter (t + n) o.timer → n < b → Seen c s x (Some 0) (Some 0) 0 (ticks n t o)
       blinking n a l = waits n t o (both_after (t + n) o a (rw e (unfold activity_due phase_end in (omega arith)))) h
 
       before_turn : (n : ℕ) → TimerAfter (t + n) o.timer → b ≤ n → After (t + (b - 1)) o
@@ -217,13 +217,13 @@ module _ (c : Settings) (s : Slots) (x y : ℕ) (starts : Starts c s x) (inside 
           at_last t b o (emptied o.slots slot6) Still z' (before_turn n a l)
           (λ r. turns_off (t + b) x y (t + b + d) (with_relay (with_burned t b o) r) e (timer_earlier o.timer (omega arith) a) (omega arith))
 
-      put_out : (n : ℕ) → TimerAfter (t + n) o.timer → b ≤ n → d ≡ 0 → Seen c s x none (some 0) 0 (ticks n t o)
+      put_out : (n : ℕ) → TimerAfter (t + n) o.timer → b ≤ n → d ≡ 0 → Seen c s x None (Some 0) 0 (ticks n t o)
       put_out n a l q =
           let r = turned_off n a l q in
           later n b t o l
           (waits (n - b) (t + b) (ticks b t o)
           (both_after (t + b + (n - b)) (ticks b t o) (timer_at_lem (t + b + (n - b)) o.timer (ticks b t o).timer r.timer (omega arith) a) (rw r.activity (unfold activity_due in tt)))
-          (seen_over (ticks b t o) refl (r.settings ∙ h.settings) (rw r.slots (put_six none distance_six h.slots))))
+          (seen_over (ticks b t o) refl (r.settings ∙ h.settings) (rw r.slots (put_six None distance_six h.slots))))
 
 -- WHEN A WARNING STARTS: exactly under the paper's conditions
 zero_or_empty_slot : (s : Slots) (i : ℕ) → length s.levels ≡ slot_count → i < slot_count → Unlit (slot s i) → zero_or_empty s i ≡ true
@@ -233,7 +233,7 @@ zero_or_empty_slot s i z k h =
     (λ e. rw e (eqb_hit {a = get_or s.levels i 0} {b = 0} (go (get_or s.levels i 0) (slot_is s i (omega arith) ∙ rw e))))
     (λ e. rw e)
   where
-    go : (v : ℕ) → slot s i ≡ some v → v ≡ 0
+    go : (v : ℕ) → slot s i ≡ Some v → v ≡ 0
     go v e = rw e at h
 
 slot_zero_or_empty : (s : Slots) (i : ℕ) → length s.levels ≡ slot_count → i < slot_count → zero_or_empty s i ≡ true → Unlit (slot s i)
@@ -242,16 +242,16 @@ slot_zero_or_empty s i z k h =
     rw (slot_is s i (omega arith))
     (by_bool (is_live s i) (λ e. rw e (eq_of (rw e at h))) (λ e. rw e tt))
 
-pub dead_slot : (s : Slots) (i : ℕ) → length s.levels ≡ slot_count → i < slot_count → is_live s i ≡ false → slot s i ≡ none
+pub dead_slot : (s : Slots) (i : ℕ) → length s.levels ≡ slot_count → i < slot_count → is_live s i ≡ false → slot s i ≡ None
 unfolding when◌then◌else◌
 dead_slot s i z k e = slot_is s i (omega arith) ∙ rw e
 
-first_from : (l : List (Option ℕ)) (x : ℕ) → x ≤ length l → ((i : ℕ) → i < x → get_or l i none ≡ none) → x ≤ first_live l
+first_from : (l : List (Option ℕ)) (x : ℕ) → x ≤ length l → ((i : ℕ) → i < x → get_or l i None ≡ None) → x ≤ first_live l
 unfolding first_live
 first_from l zero h k = omega arith
 first_from [] (suc x) h k = absurd (omega arith)
-first_from (none ∷ l) (suc x) h k = omega (arith, first_from l x (omega arith) (λ i m. k (suc i) (omega arith)))
-first_from (some v ∷ l) (suc x) h k = no_slot (sym (k 0 (omega arith)))
+first_from (None ∷ l) (suc x) h k = omega (arith, first_from l x (omega arith) (λ i m. k (suc i) (omega arith)))
+first_from (Some v ∷ l) (suc x) h k = no_slot (sym (k 0 (omega arith)))
 
 module _ (c : Settings) (s : Slots) (x : ℕ) (size : length s.levels ≡ slot_count) (inside : x < slot_count) where
   pub starts_warns : Starts c s x → warns c s x ≡ true
@@ -287,25 +287,25 @@ module _ (c : Settings) (s : Slots) (x : ℕ) (size : length s.levels ≡ slot_c
 -- THE COURSE: B ms dark, D ms at the old level Y, then dark; slot x empties with slot 6 if D is above 0, else
 -- keeps its 0
 pub record Course (c : Settings) (s : Slots) (x y t : ℕ) (o : Output) : Type 0 where
-  pub dark : (n : ℕ) → TimerAfter (t + n) o.timer → n < c.blink → Seen c s x (some 0) (some 0) 0 (ticks n t o)
-  pub lit : (n : ℕ) → TimerAfter (t + n) o.timer → c.blink ≤ n → n < c.blink + c.delay → Seen c s x (some y) (some 0) y (ticks n t o)
-  pub over : (n : ℕ) → TimerAfter (t + n) o.timer → c.blink + c.delay ≤ n → 0 < c.delay → Seen c s x none none 0 (ticks n t o)
-  pub over_without_delay : (n : ℕ) → TimerAfter (t + n) o.timer → c.blink ≤ n → c.delay ≡ 0 → Seen c s x none (some 0) 0 (ticks n t o)
+  pub dark : (n : ℕ) → TimerAfter (t + n) o.timer → n < c.blink → Seen c s x (Some 0) (Some 0) 0 (ticks n t o)
+  pub lit : (n : ℕ) → TimerAfter (t + n) o.timer → c.blink ≤ n → n < c.blink + c.delay → Seen c s x (Some y) (Some 0) y (ticks n t o)
+  pub over : (n : ℕ) → TimerAfter (t + n) o.timer → c.blink + c.delay ≤ n → 0 < c.delay → Seen c s x None None 0 (ticks n t o)
+  pub over_without_delay : (n : ℕ) → TimerAfter (t + n) o.timer → c.blink ≤ n → c.delay ≡ 0 → Seen c s x None (Some 0) 0 (ticks n t o)
 
 -- a warning's start
 begun : (c : Settings) (s : Slots) (x : ℕ) → length s.levels ≡ slot_count → x < slot_count → x ≢ slot6 → (w : ℕ)
-    → State s x (some w) (some 0) (filled (filled s x 0) slot6 w)
+    → State s x (Some w) (Some 0) (filled (filled s x 0) slot6 w)
 begun c s x z k n w =
     record {
-      size = put_sized (filled s x 0) (put_sized s z x (some 0)) slot6 (some w);
-      six = slot_same (filled s x 0) (put_sized s z x (some 0)) slot6 (some w) (omega arith);
-      own = slot_other (filled s x 0) (put_sized s z x (some 0)) slot6 x (some w) (omega arith) (λ e. n (sym e)) ∙ slot_same s z x (some 0) k;
+      size = put_sized (filled s x 0) (put_sized s z x (Some 0)) slot6 (Some w);
+      six = slot_same (filled s x 0) (put_sized s z x (Some 0)) slot6 (Some w) (omega arith);
+      own = slot_other (filled s x 0) (put_sized s z x (Some 0)) slot6 x (Some w) (omega arith) (λ e. n (sym e)) ∙ slot_same s z x (Some 0) k;
       rest = λ i z' q.
-          slot_other (filled s x 0) (put_sized s z x (some 0)) slot6 i (some w) (omega arith) (λ e. z' (sym e)) ∙ slot_other s z x i (some 0) k (λ e. q (sym e));
+          slot_other (filled s x 0) (put_sized s z x (Some 0)) slot6 i (Some w) (omega arith) (λ e. z' (sym e)) ∙ slot_other s z x i (Some 0) k (λ e. q (sym e));
     }
 
 module _ (c : Settings) (s : Slots) (x y : ℕ) (starts : Starts c s x) (inside : x < slot_count) (same : clamp_lit c y ≡ y) (t : ℕ) (o : Output) where
-  from_blink : 0 < c.blink → o.activity ≡ warning_in Blink x y (t + c.blink) (t + c.blink + c.delay) → Seen c s x (some 0) (some 0) 0 o → Course c s x y t o
+  from_blink : 0 < c.blink → o.activity ≡ warning_in Blink x y (t + c.blink) (t + c.blink + c.delay) → Seen c s x (Some 0) (Some 0) 0 o → Course c s x y t o
   from_blink z' e h =
       record {
         dark = λ n a l. blinking c s x y starts inside same t o c.blink c.delay z' e h n a l;
@@ -324,13 +324,13 @@ module _ (c : Settings) (s : Slots) (x y : ℕ) (starts : Starts c s x) (inside 
         over_without_delay = λ n a l q. put_out c s x y starts inside same t o c.blink c.delay z' e h n a l q;
       }
     where
-      bright : Became o (ticks c.blink t o) (filled o.slots slot6 y) (warning_in Delay x y (t + c.blink) (t + c.blink + c.delay)) → Seen c s x (some y) (some 0) y (ticks c.blink t o)
+      bright : Became o (ticks c.blink t o) (filled o.slots slot6 y) (warning_in Delay x y (t + c.blink) (t + c.blink + c.delay)) → Seen c s x (Some y) (Some 0) y (ticks c.blink t o)
       bright r =
           seen_lit c s x y starts inside same y (ticks c.blink t o) same (r.settings ∙ h.settings)
-          (rw r.slots (put_six (some y) (distance_six c s x y starts inside same) h.slots))
+          (rw r.slots (put_six (Some y) (distance_six c s x y starts inside same) h.slots))
 
   -- with B = 0 the second phase comes at once
-  from_delay : c.blink ≡ 0 → o.activity ≡ warning_in Delay x y (t + c.blink) (t + c.blink + c.delay) → Seen c s x (some y) (some 0) y o → Course c s x y t o
+  from_delay : c.blink ≡ 0 → o.activity ≡ warning_in Delay x y (t + c.blink) (t + c.blink + c.delay) → Seen c s x (Some y) (Some 0) y o → Course c s x y t o
   from_delay z e h =
       let z' : 0 < c.delay = omega (arith, starts.lasts) in
       let f : o.activity ≡ warning_in Delay x y (t + c.blink) (t + c.delay) = e ∙ ap (λ (v : ℕ). warning_in Delay x y (t + c.blink) v) (omega arith) in

@@ -1,5 +1,6 @@
 -- WRITE, THEN READ: kind 04 of property n with x, answered Done; then kind 05 of n answers what was written,
 -- and every other property that is kept answers as it did.
+use Rattle.std.specs.Prelude.{Option, Some, None}
 use mathlib.Core.Path.{◌≡◌, refl, ap, ap₂, ◌∙◌}
 use mathlib.Core.Logic.{◌≢◌}
 use mathlib.Core.Bool.{Bool, true, false, false≢true}
@@ -22,8 +23,6 @@ use Rattle.lighting_outputs.specs.declared.Activity.{Activity}
 use Rattle.lighting_outputs.specs.declared.Activity.TheVariants.{Still, Moving, Warned}
 use Rattle.lighting_outputs.specs.declared.Answer.{Answer}
 use Rattle.lighting_outputs.specs.declared.Answer.TheVariants.{Done, Value, Absent, Refused}
-use Rattle.lighting_levels.specs.declared.Level.{Level}
-use Rattle.lighting_levels.specs.declared.Level.TheVariants.{Units, OutOfRange}
 use Rattle.lighting_outputs.specs.declared.Property.{Property}
 use Rattle.lighting_outputs.specs.declared.Property.TheVariants.{RelinquishDefault, FadeTime, RampRate, StepIncrement, BlinkEnable, BlinkTime, BlinkWarnDelay, MinValue, MaxValue, CommandPriority, ElapsedActiveTime, BinaryActiveValue, BinaryInactiveValue, Polarity}
 use Rattle.lighting_outputs.specs.declared.Range.{Range}
@@ -125,8 +124,8 @@ kept_judged t o = refl
 
 -- WHAT IS KEPT, v, of a value x that was taken, by the row
 abbrev Keeps : Range → ℕ → ℕ → Type 0
-Keeps Percent x v = level_of (real x) ≡ Units v
-Keeps Limit x v = limit_of (real x) ≡ Units v
+Keeps Percent x v = level_of (real x) ≡ Some v
+Keeps Limit x v = limit_of (real x) ≡ Some v
 Keeps Amount x v = (v ≡ x) × (is_amount (real x) ≡ true)
 Keeps (Whole low high) x v = (v ≡ x) × Within low high x
 Keeps Priority x v = (v ≡ x - 1) × Slot (x - 1) × (0 < x)
@@ -178,10 +177,10 @@ module _ (p : Parameters) (t t' : ℕ) (o : Output) (x : ℕ) where
     unfolding acted served unchanged
     turned_down r h = refused h
 
-    to_level : (l : Level) → ((v : ℕ) → l ≡ Units v → WriteRead t' o (changed o u v) n x) → After (change_to u l)
+    to_level : (l : Option ℕ) → ((v : ℕ) → l ≡ Some v → WriteRead t' o (changed o u v) n x) → After (change_to u l)
     unfolding change_to
-    to_level (Units v) f = changes v (f v refl)
-    to_level OutOfRange f = turned_down 11
+    to_level (Some v) f = changes v (f v refl)
+    to_level None f = turned_down 11
 
     by_row : (r : Range) → ((v : ℕ) → Keeps r x v → WriteRead t' o (changed o u v) n x) → After (change_by r u x)
     unfolding change_by when◌then◌else◌
@@ -305,38 +304,38 @@ module _ (p : Parameters) (t t' : ℕ) (o : Output) (x : ℕ) where
       (λ l e. rw (e, unlisted n h))
 
   -- 'Min over Max' is 13, and leaves everything; equal is taken
-  pub min_taken : (v : ℕ) → limit_of (real x) ≡ Units v → v ≤ o.settings.max → o.relay.inactive < o.relay.active → (writes p t o 0x08 x).answer ≡ Done
+  pub min_taken : (v : ℕ) → limit_of (real x) ≡ Some v → v ≤ o.settings.max → o.relay.inactive < o.relay.active → (writes p t o 0x08 x).answer ≡ Done
   unfolding acted served unchanged done property_of numbered change_of change_by change_to changed_unless settings_with relay_with same min_over_max inactive_not_below when◌then◌else◌
   min_taken v e h b = rw (e, leb_no {a = suc o.settings.max} {b = v} (omega arith), leb_no {a = o.relay.active} {b = o.relay.inactive} b)
 
-  pub min_over_max_lem : (v : ℕ) → limit_of (real x) ≡ Units v → o.settings.max < v → writes p t o 0x08 x ≡ unchanged o (Refused 13)
+  pub min_over_max_lem : (v : ℕ) → limit_of (real x) ≡ Some v → o.settings.max < v → writes p t o 0x08 x ≡ unchanged o (Refused 13)
   unfolding acted served unchanged done property_of numbered change_of change_by change_to changed_unless settings_with same min_over_max when◌then◌else◌
   min_over_max_lem v e h = rw (e, leb_yes {a = suc o.settings.max} {b = v} h)
 
-  pub max_taken : (v : ℕ) → limit_of (real x) ≡ Units v → o.settings.min ≤ v → o.relay.inactive < o.relay.active → (writes p t o 0x09 x).answer ≡ Done
+  pub max_taken : (v : ℕ) → limit_of (real x) ≡ Some v → o.settings.min ≤ v → o.relay.inactive < o.relay.active → (writes p t o 0x09 x).answer ≡ Done
   unfolding acted served unchanged done property_of numbered change_of change_by change_to changed_unless settings_with relay_with same min_over_max inactive_not_below when◌then◌else◌
   max_taken v e h b = rw (e, leb_no {a = suc v} {b = o.settings.min} (omega arith), leb_no {a = o.relay.active} {b = o.relay.inactive} b)
 
-  pub max_under_min : (v : ℕ) → limit_of (real x) ≡ Units v → v < o.settings.min → writes p t o 0x09 x ≡ unchanged o (Refused 13)
+  pub max_under_min : (v : ℕ) → limit_of (real x) ≡ Some v → v < o.settings.min → writes p t o 0x09 x ≡ unchanged o (Refused 13)
   unfolding acted served unchanged done property_of numbered change_of change_by change_to changed_unless settings_with same min_over_max when◌then◌else◌
   max_under_min v e h = rw (e, leb_yes {a = suc v} {b = o.settings.min} h)
 
   -- 'a write to 17 or 18 that would leave the inactive value not below the active one' is 16, and leaves
   -- everything; equal is refused
   module _ (order : o.settings.min ≤ o.settings.max) where
-    pub active_taken : (v : ℕ) → level_of (real x) ≡ Units v → o.relay.inactive < v → (writes p t o 0x17 x).answer ≡ Done
+    pub active_taken : (v : ℕ) → level_of (real x) ≡ Some v → o.relay.inactive < v → (writes p t o 0x17 x).answer ≡ Done
     unfolding acted served unchanged done property_of numbered change_of change_by change_to changed_unless settings_with relay_with same min_over_max inactive_not_below when◌then◌else◌
     active_taken v e h = rw (e, leb_no {a = suc o.settings.max} {b = o.settings.min} (omega arith), leb_no {a = v} {b = o.relay.inactive} h)
 
-    pub active_not_above : (v : ℕ) → level_of (real x) ≡ Units v → v ≤ o.relay.inactive → writes p t o 0x17 x ≡ unchanged o (Refused 16)
+    pub active_not_above : (v : ℕ) → level_of (real x) ≡ Some v → v ≤ o.relay.inactive → writes p t o 0x17 x ≡ unchanged o (Refused 16)
     unfolding acted served unchanged done property_of numbered change_of change_by change_to changed_unless settings_with relay_with same min_over_max inactive_not_below when◌then◌else◌
     active_not_above v e h = rw (e, leb_no {a = suc o.settings.max} {b = o.settings.min} (omega arith), leb_yes {a = v} {b = o.relay.inactive} h)
 
-    pub inactive_taken : (v : ℕ) → level_of (real x) ≡ Units v → v < o.relay.active → (writes p t o 0x18 x).answer ≡ Done
+    pub inactive_taken : (v : ℕ) → level_of (real x) ≡ Some v → v < o.relay.active → (writes p t o 0x18 x).answer ≡ Done
     unfolding acted served unchanged done property_of numbered change_of change_by change_to changed_unless settings_with relay_with same min_over_max inactive_not_below when◌then◌else◌
     inactive_taken v e h = rw (e, leb_no {a = suc o.settings.max} {b = o.settings.min} (omega arith), leb_no {a = o.relay.active} {b = v} h)
 
-    pub inactive_not_below_lem : (v : ℕ) → level_of (real x) ≡ Units v → o.relay.active ≤ v → writes p t o 0x18 x ≡ unchanged o (Refused 16)
+    pub inactive_not_below_lem : (v : ℕ) → level_of (real x) ≡ Some v → o.relay.active ≤ v → writes p t o 0x18 x ≡ unchanged o (Refused 16)
     unfolding acted served unchanged done property_of numbered change_of change_by change_to changed_unless settings_with relay_with same min_over_max inactive_not_below when◌then◌else◌
     inactive_not_below_lem v e h = rw (e, leb_no {a = suc o.settings.max} {b = o.settings.min} (omega arith), leb_yes {a = o.relay.active} {b = v} h)
 

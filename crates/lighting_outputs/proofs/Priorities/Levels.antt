@@ -1,5 +1,5 @@
 -- Levels stay levels: of Present_Value, and of the slots after one is emptied or filled.
-use mathlib.Core.Option.{Option, none}
+use Rattle.std.specs.Prelude.{Option, None}
 use Prim.Native.Nat.{ℕ, ◌<◌}
 use native.Mathlib.Omega.{arith}
 use lib.ListN.{set, get_or}
@@ -28,10 +28,10 @@ present_level p c s h = clamp_lit_level p c _ h
 pub put_filled : (s : Slots) (i : ℕ) (x : Option ℕ) → Filled s → i < slot_count → SlotLevel x → Filled (put s i x)
 put_filled s i x f k l = record { size = put_sized s f.size i x; level = λ j m. rw (put_slots s i x f.size k) (at j m) }
   where
-    at : (j : ℕ) → j < slot_count → SlotLevel (get_or (set (slots_of s) i x) j none)
+    at : (j : ℕ) → j < slot_count → SlotLevel (get_or (set (slots_of s) i x) j None)
     at j m =
         by_eq
         i
         j
-        (λ z e. rw (← z, get_or-set_same (slots_of s) i x none (omega (arith, slots_size s, f.size))) l)
-        (λ z e. rw (get_or-set_other (slots_of s) i j x none (omega arith)) (f.level j m))
+        (λ z e. rw (← z, get_or-set_same (slots_of s) i x None (omega (arith, slots_size s, f.size))) l)
+        (λ z e. rw (get_or-set_other (slots_of s) i j x None (omega arith)) (f.level j m))

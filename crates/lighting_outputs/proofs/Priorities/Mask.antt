@@ -1,8 +1,8 @@
 -- The mask's operations, as the code makes them, are those on the slots.
+use Rattle.std.specs.Prelude.{Option, Some, None}
 use mathlib.Core.Path.{◌≡◌, refl, sym, ap, ◌∙◌}
 use mathlib.Core.Bool.{Bool, true, false, not, false≢true}
 use mathlib.Core.List.{List, [], ◌∷◌}
-use mathlib.Core.Option.{Option, none, some}
 use Prim.Native.Nat.{ℕ, zero, suc, ◌+◌, ◌-◌, ◌*◌, ◌/◌, ◌%◌, ◌^◌, ◌≤◌, ◌<◌}
 use native.Mathlib.Nat.{div-eq_of_lt, lt_of_lt_of_le, zero-mul, one-mul, div-one}
 use native.Mathlib.Omega.{arith}
@@ -24,14 +24,14 @@ length_view m (v ∷ l) = ap suc (length_view (m / 2) l)
 
 -- a number made of a digit and the rest shows them
 view_digit : (m x d v : ℕ) (l : List ℕ) → m ≡ x * 2 + d → d < 2
-    → view m (v ∷ l) ≡ (when eqb d 1 then some v else none) ∷ view x l
+    → view m (v ∷ l) ≡ (when eqb d 1 then Some v else None) ∷ view x l
 unfolding view when◌then◌else◌
 view_digit m x d v l p h =
     let e : m % 2 ≡ d = omega arith in
     let f : m / 2 ≡ x = omega arith in
     rw (e, f)
 
-view_or : (m i v : ℕ) (l : List ℕ) → view (bit_or m (2 ^ i)) (set l i v) ≡ set (view m l) i (some v)
+view_or : (m i v : ℕ) (l : List ℕ) → view (bit_or m (2 ^ i)) (set l i v) ≡ set (view m l) i (Some v)
 unfolding view when◌then◌else◌
 view_or m i v [] = refl
 view_or m zero v (w ∷ l) = view_digit (bit_or m 1) (m / 2) 1 v l (omega (arith, or_step m 1, or_zero_r (m / 2))) (omega arith)
@@ -46,7 +46,7 @@ view_or m (suc i) v (w ∷ l) =
     (set l i v)
     (omega (arith, rw (e, f) at (or_step m (2 ^ suc i))))
     (omega arith)
-    ∙ ap (λ (z : List (Option ℕ)). (when eqb (m % 2) 1 then some w else none) ∷ z) (view_or (m / 2) i v l)
+    ∙ ap (λ (z : List (Option ℕ)). (when eqb (m % 2) 1 then Some w else None) ∷ z) (view_or (m / 2) i v l)
 
 view_mod : (m n : ℕ) (l : List ℕ) → length l ≤ n → view (m % 2 ^ n) l ≡ view m l
 unfolding view when◌then◌else◌
@@ -61,11 +61,11 @@ view_mod m (suc n) (v ∷ l) h =
     l
     (omega (arith, rw (add-one n) at (mod-pow-add m n 1)))
     (omega arith)
-    ∙ ap (λ (z : List (Option ℕ)). (when eqb (m % 2) 1 then some v else none) ∷ z) (view_mod (m / 2) n l (omega arith))
+    ∙ ap (λ (z : List (Option ℕ)). (when eqb (m % 2) 1 then Some v else None) ∷ z) (view_mod (m / 2) n l (omega arith))
 
 -- bit i cleared, and any level v left in its place
 view_and : (m i n v : ℕ) (l : List ℕ) → i < n → length l ≤ n
-    → view (bit_and m ((2 ^ n - 1) - 2 ^ i)) (set l i v) ≡ set (view m l) i none
+    → view (bit_and m ((2 ^ n - 1) - 2 ^ i)) (set l i v) ≡ set (view m l) i None
 unfolding view when◌then◌else◌
 view_and m i n v [] h k = refl
 view_and m i zero v (w ∷ l) h k = absurd (omega arith)
@@ -81,7 +81,7 @@ view_and m zero (suc n) v (w ∷ l) h k =
     l
     (omega (arith, and_mask (m / 2) n, rw (e, f) at (and_step m ((2 ^ suc n - 1) - 1))))
     (omega arith)
-    ∙ ap (λ (z : List (Option ℕ)). none ∷ z) (view_mod (m / 2) n l (omega arith))
+    ∙ ap (λ (z : List (Option ℕ)). None ∷ z) (view_mod (m / 2) n l (omega arith))
 view_and m (suc i) (suc n) v (w ∷ l) h k =
     let p : 2 ^ i < 2 ^ n = pow-lt (omega arith) in
     let e : ((2 ^ suc n - 1) - 2 ^ suc i) / 2 ≡ (2 ^ n - 1) - 2 ^ i = omega arith in
@@ -95,14 +95,14 @@ view_and m (suc i) (suc n) v (w ∷ l) h k =
     (omega (arith, rw (e, f) at (and_step m ((2 ^ suc n - 1) - 2 ^ suc i))))
     (omega arith)
     ∙ ap
-    (λ (z : List (Option ℕ)). (when eqb (m % 2) 1 then some w else none) ∷ z)
+    (λ (z : List (Option ℕ)). (when eqb (m % 2) 1 then Some w else None) ∷ z)
     (view_and (m / 2) i n v l (omega arith) (omega arith))
 
 -- A SLOT PUT: for the sixteen slots the guard never bites
 pub put_slots : (s : Slots) (i : ℕ) (x : Option ℕ) → length s.levels ≡ slot_count → i < slot_count → slots_of (put s i x) ≡ set (slots_of s) i x
 unfolding put slots_of mask_emptied mask_filled level_set when◌then◌else◌
-put_slots s i none h k = rw (leb_yes {a = suc i} {b = slot_count} k) (view_and s.live i slot_count 0 s.levels k (omega arith))
-put_slots s i (some v) h k = rw (leb_yes {a = suc i} {b = slot_count} k) (view_or s.live i v s.levels)
+put_slots s i None h k = rw (leb_yes {a = suc i} {b = slot_count} k) (view_and s.live i slot_count 0 s.levels k (omega arith))
+put_slots s i (Some v) h k = rw (leb_yes {a = suc i} {b = slot_count} k) (view_or s.live i v s.levels)
 
 set_size : (l : List ℕ) (i v : ℕ) → length (level_set l i v) ≡ length l
 unfolding level_set when◌then◌else◌
@@ -110,8 +110,8 @@ set_size l i v = by_lt i slot_count (λ p e. rw e (length-set l i v)) (λ p e. r
 
 pub put_size : (s : Slots) (i : ℕ) (x : Option ℕ) → length (put s i x).levels ≡ length s.levels
 unfolding put
-put_size s i none = set_size s.levels i 0
-put_size s i (some v) = set_size s.levels i v
+put_size s i None = set_size s.levels i 0
+put_size s i (Some v) = set_size s.levels i v
 
 pub slots_size : (s : Slots) → length (slots_of s) ≡ length s.levels
 unfolding slots_of
@@ -136,20 +136,20 @@ winner_zeros s h = zeros_view slot_count s.live s.levels h
 
 -- WHETHER A SLOT IS LIVE, by the mask
 abbrev pub alive : Option ℕ → Bool
-alive none = false
-alive (some v) = true
+alive None = false
+alive (Some v) = true
 
 pub halved : (i m : ℕ) → m / 2 ^ suc i ≡ m / 2 / 2 ^ i
 halved i m = sym (shr-shr m 1 i ∙ ap (λ (k : ℕ). m / 2 ^ k) (omega arith))
 
 slot_view : (m i : ℕ) (l : List ℕ) → i < length l
-    → get_or (view m l) i none ≡ (when bit_set m i then some (get_or l i 0) else none)
+    → get_or (view m l) i None ≡ (when bit_set m i then Some (get_or l i 0) else None)
 unfolding view
 slot_view m i [] h = absurd (omega arith)
 slot_view m zero (v ∷ l) h = rw (div-one m)
 slot_view m (suc i) (v ∷ l) h = rw (halved i m) (slot_view (m / 2) i l (omega arith))
 
-pub slot_is : (s : Slots) (i : ℕ) → i < length s.levels → slot s i ≡ (when is_live s i then some (get_or s.levels i 0) else none)
+pub slot_is : (s : Slots) (i : ℕ) → i < length s.levels → slot s i ≡ (when is_live s i then Some (get_or s.levels i 0) else None)
 unfolding is_live slots_of
 slot_is s i h = slot_view s.live i s.levels h
 
@@ -181,16 +181,16 @@ tested width m i h =
     (λ p e. let z : m / 2 ^ i % 2 ≡ 0 = omega arith in rw (z, zero-mul (2 ^ i))))
 
 -- a live slot is one of the sixteen and holds its level; one that is not live holds nothing
-pub slot_live : (d : ℕ) (s : Slots) (i : ℕ) → length s.levels ≡ slot_count → s.live < 65536 → is_live s i ≡ true → slot s i ≡ some (level_at d s i)
+pub slot_live : (d : ℕ) (s : Slots) (i : ℕ) → length s.levels ≡ slot_count → s.live < 65536 → is_live s i ≡ true → slot s i ≡ Some (level_at d s i)
 unfolding level_at when◌then◌else◌
 slot_live d s i size mask live =
     by_lt i slot_count
     (λ h e. rw (e, slot_is s i (omega arith), live))
     (λ h e. absurd (false≢true (sym (dead_past s.live i mask h) ∙ (unfold is_live in live))))
 
-pub slot_dead : (s : Slots) (i : ℕ) → length s.levels ≡ slot_count → is_live s i ≡ false → slot s i ≡ none
+pub slot_dead : (s : Slots) (i : ℕ) → length s.levels ≡ slot_count → is_live s i ≡ false → slot s i ≡ None
 unfolding when◌then◌else◌
 slot_dead s i size dead =
     by_lt i slot_count
     (λ h e. rw (slot_is s i (omega arith), dead))
-    (λ h e. get_or-eq_default (slots_of s) none (omega (arith, slots_size s)))
+    (λ h e. get_or-eq_default (slots_of s) None (omega (arith, slots_size s)))

@@ -1,9 +1,9 @@
 -- What a slot emptied or filled does to the winner, to its level, and to slot 6.
+use Rattle.std.specs.Prelude.{Option, Some, None}
 use mathlib.Core.Path.{◌≡◌, refl, sym, ap, ◌∙◌}
 use mathlib.Core.Logic.{◌≢◌}
 use mathlib.Core.Bool.{false, true≢false}
 use mathlib.Core.List.{List, [], ◌∷◌}
-use mathlib.Core.Option.{Option, none, some}
 use Prim.Native.Nat.{ℕ, zero, suc, ◌/◌, ◌%◌, ◌≤◌, ◌<◌}
 use native.Mathlib.Omega.{arith}
 use lib.Dec.{ltb}
@@ -16,8 +16,8 @@ use Rattle.lighting_outputs.proofs.Priorities.Mask.{alive, is_live_slot, put_slo
 
 unfoldable pub first_level : ℕ → List (Option ℕ) → ℕ
 first_level d [] = d
-first_level d (none ∷ s) = first_level d s
-first_level d (some v ∷ s) = v
+first_level d (None ∷ s) = first_level d s
+first_level d (Some v ∷ s) = v
 
 suc_ltb : (a b : ℕ) → ltb (suc a) (suc b) ≡ ltb a b
 suc_ltb a b = by_lt a b (λ p e. rw e (leb_yes {a = suc (suc a)} {b = suc b} (omega arith))) (λ p e. rw e (leb_no {a = suc (suc a)} {b = suc b} (omega arith)))
@@ -38,77 +38,77 @@ unfolding winning_level level_at winner slots_of
 winning_level_view d s h = rw h at (level_view d s.live s.levels)
 
 -- THE WINNER AND ITS LEVEL, on the list of slots, after a slot was emptied or filled
-live_empty : (s : List (Option ℕ)) (q : ℕ) → q ≢ first_live s → first_live (set s q none) ≡ first_live s
+live_empty : (s : List (Option ℕ)) (q : ℕ) → q ≢ first_live s → first_live (set s q None) ≡ first_live s
 unfolding first_live
 live_empty [] q h = refl
-live_empty (none ∷ s) zero h = refl
-live_empty (none ∷ s) (suc q) h = ap suc (live_empty s q (omega arith))
-live_empty (some v ∷ s) zero h = absurd (h refl)
-live_empty (some v ∷ s) (suc q) h = refl
+live_empty (None ∷ s) zero h = refl
+live_empty (None ∷ s) (suc q) h = ap suc (live_empty s q (omega arith))
+live_empty (Some v ∷ s) zero h = absurd (h refl)
+live_empty (Some v ∷ s) (suc q) h = refl
 
-level_empty : (d : ℕ) (s : List (Option ℕ)) (q : ℕ) → q ≢ first_live s → first_level d (set s q none) ≡ first_level d s
+level_empty : (d : ℕ) (s : List (Option ℕ)) (q : ℕ) → q ≢ first_live s → first_level d (set s q None) ≡ first_level d s
 unfolding first_live first_level
 level_empty d [] q h = refl
-level_empty d (none ∷ s) zero h = refl
-level_empty d (none ∷ s) (suc q) h = level_empty d s q (omega arith)
-level_empty d (some v ∷ s) zero h = absurd (h refl)
-level_empty d (some v ∷ s) (suc q) h = refl
+level_empty d (None ∷ s) zero h = refl
+level_empty d (None ∷ s) (suc q) h = level_empty d s q (omega arith)
+level_empty d (Some v ∷ s) zero h = absurd (h refl)
+level_empty d (Some v ∷ s) (suc q) h = refl
 
 live_over : (s : List (Option ℕ)) (p : ℕ) (x : Option ℕ) → first_live s < p → first_live (set s p x) ≡ first_live s
 unfolding first_live
 live_over [] p x h = refl
-live_over (none ∷ s) zero x h = absurd (omega arith)
-live_over (none ∷ s) (suc p) x h = ap suc (live_over s p x (omega arith))
-live_over (some v ∷ s) zero x h = absurd (omega arith)
-live_over (some v ∷ s) (suc p) x h = refl
+live_over (None ∷ s) zero x h = absurd (omega arith)
+live_over (None ∷ s) (suc p) x h = ap suc (live_over s p x (omega arith))
+live_over (Some v ∷ s) zero x h = absurd (omega arith)
+live_over (Some v ∷ s) (suc p) x h = refl
 
 level_over : (d : ℕ) (s : List (Option ℕ)) (p : ℕ) (x : Option ℕ) → first_live s < p → first_level d (set s p x) ≡ first_level d s
 unfolding first_live first_level
 level_over d [] p x h = refl
-level_over d (none ∷ s) zero x h = absurd (omega arith)
-level_over d (none ∷ s) (suc p) x h = level_over d s p x (omega arith)
-level_over d (some v ∷ s) zero x h = absurd (omega arith)
-level_over d (some v ∷ s) (suc p) x h = refl
+level_over d (None ∷ s) zero x h = absurd (omega arith)
+level_over d (None ∷ s) (suc p) x h = level_over d s p x (omega arith)
+level_over d (Some v ∷ s) zero x h = absurd (omega arith)
+level_over d (Some v ∷ s) (suc p) x h = refl
 
-live_filled : (s : List (Option ℕ)) (p v : ℕ) → p < length s → p ≤ first_live s → first_live (set s p (some v)) ≡ p
+live_filled : (s : List (Option ℕ)) (p v : ℕ) → p < length s → p ≤ first_live s → first_live (set s p (Some v)) ≡ p
 unfolding first_live
 live_filled [] p v l h = absurd (omega arith)
 live_filled (x ∷ s) zero v l h = refl
-live_filled (none ∷ s) (suc p) v l h = ap suc (live_filled s p v (omega arith) (omega arith))
-live_filled (some w ∷ s) (suc p) v l h = absurd (omega arith)
+live_filled (None ∷ s) (suc p) v l h = ap suc (live_filled s p v (omega arith) (omega arith))
+live_filled (Some w ∷ s) (suc p) v l h = absurd (omega arith)
 
-level_filled : (d : ℕ) (s : List (Option ℕ)) (p v : ℕ) → p < length s → first_live (set s p (some v)) ≡ p
-    → first_level d (set s p (some v)) ≡ v
+level_filled : (d : ℕ) (s : List (Option ℕ)) (p v : ℕ) → p < length s → first_live (set s p (Some v)) ≡ p
+    → first_level d (set s p (Some v)) ≡ v
 unfolding first_live first_level
 level_filled d [] p v l h = absurd (omega arith)
 level_filled d (x ∷ s) zero v l h = refl
-level_filled d (none ∷ s) (suc p) v l h = level_filled d s p v (omega arith) (omega arith)
-level_filled d (some w ∷ s) (suc p) v l h = absurd (omega arith)
+level_filled d (None ∷ s) (suc p) v l h = level_filled d s p v (omega arith) (omega arith)
+level_filled d (Some w ∷ s) (suc p) v l h = absurd (omega arith)
 
 level_live : (d d' : ℕ) (s : List (Option ℕ)) → first_live s < length s → first_level d s ≡ first_level d' s
 unfolding first_live first_level
 level_live d d' [] h = absurd (omega arith)
-level_live d d' (none ∷ s) h = level_live d d' s (omega arith)
-level_live d d' (some v ∷ s) h = refl
+level_live d d' (None ∷ s) h = level_live d d' s (omega arith)
+level_live d d' (Some v ∷ s) h = refl
 
-set_dead : (s : List (Option ℕ)) (i : ℕ) → alive (get_or s i none) ≡ false → set s i none ≡ s
+set_dead : (s : List (Option ℕ)) (i : ℕ) → alive (get_or s i None) ≡ false → set s i None ≡ s
 set_dead [] i h = refl
-set_dead (none ∷ s) zero h = refl
-set_dead (some v ∷ s) zero h = absurd (true≢false h)
+set_dead (None ∷ s) zero h = refl
+set_dead (Some v ∷ s) zero h = absurd (true≢false h)
 set_dead (x ∷ s) (suc i) h = ap (λ (z : List (Option ℕ)). x ∷ z) (set_dead s i h)
 
 live_within : (s : List (Option ℕ)) → first_live s ≤ length s
 unfolding first_live
 live_within [] = omega arith
-live_within (none ∷ s) = omega (arith, live_within s)
-live_within (some v ∷ s) = omega arith
+live_within (None ∷ s) = omega (arith, live_within s)
+live_within (Some v ∷ s) = omega arith
 
-none_before : (s : List (Option ℕ)) (i : ℕ) → i < first_live s → alive (get_or s i none) ≡ false
+none_before : (s : List (Option ℕ)) (i : ℕ) → i < first_live s → alive (get_or s i None) ≡ false
 unfolding first_live
 none_before [] i h = absurd (omega arith)
-none_before (none ∷ s) zero h = refl
-none_before (none ∷ s) (suc i) h = none_before s i (omega arith)
-none_before (some v ∷ s) i h = absurd (omega arith)
+none_before (None ∷ s) zero h = refl
+none_before (None ∷ s) (suc i) h = none_before s i (omega arith)
+none_before (Some v ∷ s) i h = absurd (omega arith)
 
 -- the same of the record, by what its slots are after `put`
 module _ (s : Slots) (size : length s.levels ≡ slot_count) where
@@ -126,24 +126,24 @@ module _ (s : Slots) (size : length s.levels ≡ slot_count) where
   unfolding winner
   winning_level_over d p x k h = winning_level_put d p x k ∙ level_over d (slots_of s) p x h ∙ sym (winning_level_view d s size)
 
-  pub winner_empty : (q : ℕ) → q < slot_count → q ≢ winner s → winner (put s q none) ≡ winner s
+  pub winner_empty : (q : ℕ) → q < slot_count → q ≢ winner s → winner (put s q None) ≡ winner s
   unfolding winner
-  winner_empty q k h = rw (put_slots s q none size k) (live_empty (slots_of s) q h)
+  winner_empty q k h = rw (put_slots s q None size k) (live_empty (slots_of s) q h)
 
-  pub winning_level_empty : (d q : ℕ) → q < slot_count → q ≢ winner s → winning_level d (put s q none) ≡ winning_level d s
+  pub winning_level_empty : (d q : ℕ) → q < slot_count → q ≢ winner s → winning_level d (put s q None) ≡ winning_level d s
   unfolding winner
-  winning_level_empty d q k h = winning_level_put d q none k ∙ level_empty d (slots_of s) q h ∙ sym (winning_level_view d s size)
+  winning_level_empty d q k h = winning_level_put d q None k ∙ level_empty d (slots_of s) q h ∙ sym (winning_level_view d s size)
 
-  pub winner_filled : (p v : ℕ) → p < slot_count → p ≤ winner s → winner (put s p (some v)) ≡ p
+  pub winner_filled : (p v : ℕ) → p < slot_count → p ≤ winner s → winner (put s p (Some v)) ≡ p
   unfolding winner
   winner_filled p v k h =
-      rw (put_slots s p (some v) size k) (live_filled (slots_of s) p v (omega (arith, slots_size s)) h)
+      rw (put_slots s p (Some v) size k) (live_filled (slots_of s) p v (omega (arith, slots_size s)) h)
 
-  pub winning_level_filled : (d p v : ℕ) → p < slot_count → winner (put s p (some v)) ≡ p → winning_level d (put s p (some v)) ≡ v
+  pub winning_level_filled : (d p v : ℕ) → p < slot_count → winner (put s p (Some v)) ≡ p → winning_level d (put s p (Some v)) ≡ v
   unfolding winner
   winning_level_filled d p v k h =
-      winning_level_put d p (some v) k
-      ∙ level_filled d (slots_of s) p v (omega (arith, slots_size s)) (rw (put_slots s p (some v) size k) at h)
+      winning_level_put d p (Some v) k
+      ∙ level_filled d (slots_of s) p v (omega (arith, slots_size s)) (rw (put_slots s p (Some v) size k) at h)
 
   pub winning_level_live : (d d' : ℕ) → winner s < slot_count → winning_level d s ≡ winning_level d' s
   unfolding winner
@@ -151,28 +151,28 @@ module _ (s : Slots) (size : length s.levels ≡ slot_count) where
       winning_level_view d s size ∙ level_live d d' (slots_of s) (omega (arith, slots_size s)) ∙ sym (winning_level_view d' s size)
 
   -- an empty slot emptied: no slot changes
-  pub put_dead : (i : ℕ) → i < slot_count → is_live s i ≡ false → slots_of (put s i none) ≡ slots_of s
+  pub put_dead : (i : ℕ) → i < slot_count → is_live s i ≡ false → slots_of (put s i None) ≡ slots_of s
   put_dead i k h =
-      put_slots s i none size k ∙ set_dead (slots_of s) i (sym (is_live_slot s i (omega arith)) ∙ h)
+      put_slots s i None size k ∙ set_dead (slots_of s) i (sym (is_live_slot s i (omega arith)) ∙ h)
 
-  pub winning_level_dead : (d i : ℕ) → i < slot_count → is_live s i ≡ false → winning_level d (put s i none) ≡ winning_level d s
+  pub winning_level_dead : (d i : ℕ) → i < slot_count → is_live s i ≡ false → winning_level d (put s i None) ≡ winning_level d s
   winning_level_dead d i k h =
-      winning_level_view d (put s i none) (put_sized i none) ∙ ap (first_level d) (put_dead i k h) ∙ sym (winning_level_view d s size)
+      winning_level_view d (put s i None) (put_sized i None) ∙ ap (first_level d) (put_dead i k h) ∙ sym (winning_level_view d s size)
 
-  pub winner_dead : (i : ℕ) → i < slot_count → is_live s i ≡ false → winner (put s i none) ≡ winner s
+  pub winner_dead : (i : ℕ) → i < slot_count → is_live s i ≡ false → winner (put s i None) ≡ winner s
   unfolding winner
   winner_dead i k h = ap first_live (put_dead i k h)
 
   pub six_kept : (i : ℕ) (x : Option ℕ) → i < slot_count → i ≢ slot6 → is_live (put s i x) slot6 ≡ is_live s slot6
   six_kept i x k n =
       is_live_slot (put s i x) slot6 (omega (arith, put_sized i x))
-      ∙ rw (put_slots s i x size k) (ap alive (get_or-set_other (slots_of s) i slot6 x none (omega arith)))
+      ∙ rw (put_slots s i x size k) (ap alive (get_or-set_other (slots_of s) i slot6 x None (omega arith)))
       ∙ sym (is_live_slot s slot6 (omega arith))
 
   pub six_set : (x : Option ℕ) → is_live (put s slot6 x) slot6 ≡ alive x
   six_set x =
       is_live_slot (put s slot6 x) slot6 (omega (arith, put_sized slot6 x))
-      ∙ rw (put_slots s slot6 x size (omega arith)) (ap alive (get_or-set_same (slots_of s) slot6 x none (omega (arith, slots_size s))))
+      ∙ rw (put_slots s slot6 x size (omega arith)) (ap alive (get_or-set_same (slots_of s) slot6 x None (omega (arith, slots_size s))))
 
   -- every slot before the winner is empty
   pub dead_before : (i : ℕ) → i < winner s → is_live s i ≡ false

@@ -1,4 +1,5 @@
 -- The ranges of a command's fields: what is taken is in range, and what each field met.
+use Rattle.std.specs.Prelude.{Option, Some, None, Float}
 use mathlib.Core.Path.{◌≡◌, refl, sym, ap, ◌∙◌}
 use mathlib.Core.Bool.{true}
 use mathlib.Core.Logic.{◌≢◌}
@@ -13,14 +14,8 @@ use Rattle.lighting_outputs.specs.Paper.Operations.{fields_of, duration_field}
 use Rattle.lighting_outputs.specs.Paper.Rows.{row_of, within, meets}
 use Rattle.lighting_outputs.specs.Paper.Requests.{level_field_refusal, amount_field_refusal, time_field_refusal, first_refusal, fields_refusal, command_lasting, command_with_duration, command_request_by, command_of, plain_duration, command_request}
 use Rattle.lighting_outputs.specs.declared.Duration.{Duration}
-use Rattle.lighting_levels.specs.declared.Level.{Level}
-use Rattle.lighting_levels.specs.declared.Level.TheVariants.{Units, OutOfRange}
 use Rattle.lighting_outputs.specs.declared.Operation.{Operation}
 use Rattle.lighting_outputs.specs.declared.Operation.TheVariants.{Stop, FadeTo, FadeToOver, RampTo, RampToAtRate, StepUp, StepDown, StepUpBy, StepDownBy, Goto, Relinquish}
-use Rattle.lighting_outputs.specs.declared.RealField.{RealField}
-use Rattle.lighting_outputs.specs.declared.RealField.TheVariants.{Real, NoReal}
-use Rattle.lighting_outputs.specs.declared.TimeField.{TimeField}
-use Rattle.lighting_outputs.specs.declared.TimeField.TheVariants.{Time, NoTime}
 use Rattle.lighting_outputs.specs.declared.OperationFields.{OperationFields}
 use Rattle.lighting_outputs.specs.declared.Command.{Command}
 use Rattle.lighting_outputs.specs.declared.Property.TheVariants.{FadeTime}
@@ -34,20 +29,20 @@ use Rattle.lighting_outputs.proofs.Rules.RequestInRange.{OperationInRange, Reque
 abbrev Fit : ℕ → Type 0
 Fit r = r ≢ 0 → 9 ≤ r
 
-level_fit : (x : Level) → Fit (level_refusal x)
-level_fit (Units v) n = absurd (n refl)
-level_fit OutOfRange n = omega arith
+level_fit : (x : Option ℕ) → Fit (level_refusal x)
+level_fit (Some v) n = absurd (n refl)
+level_fit None n = omega arith
 
-real_fit : (x : RealField) → Fit (level_field_refusal x) × Fit (amount_field_refusal x)
+real_fit : (x : Option Float) → Fit (level_field_refusal x) × Fit (amount_field_refusal x)
 unfolding level_field_refusal amount_field_refusal
-real_fit (Real x) = (level_fit (level_of x), level_fit (amount_of x))
-real_fit NoReal = ((λ n. absurd (n refl)), (λ n. absurd (n refl)))
+real_fit (Some x) = (level_fit (level_of x), level_fit (amount_of x))
+real_fit None = ((λ n. absurd (n refl)), (λ n. absurd (n refl)))
 
-time_fit : (p : Parameters) (x : TimeField) → Fit (time_field_refusal p x)
+time_fit : (p : Parameters) (x : Option ℕ) → Fit (time_field_refusal p x)
 unfolding time_field_refusal when◌then◌else◌
-time_fit p (Time l) =
+time_fit p (Some l) =
     by_bool (meets (row_of p FadeTime) l) (λ e. rw e (λ n. absurd (n refl))) (λ e. rw e (λ n. omega arith))
-time_fit p NoTime = λ n. absurd (n refl)
+time_fit p None = λ n. absurd (n refl)
 
 first_fit : (a b : ℕ) → Fit a → Fit b → Fit (first_refusal a b)
 unfolding first_refusal when◌then◌else◌
@@ -78,7 +73,7 @@ none_met p f h =
     let step = first_none _ _ rate.1 in
     record { level = level.0; rate = rate.0; step = step.0; fade = step.1 }
 
-time_good : (p : Parameters) (l : ℕ) → time_field_refusal p (Time l) ≡ 0 → meets (row_of p FadeTime) l ≡ true
+time_good : (p : Parameters) (l : ℕ) → time_field_refusal p (Some l) ≡ 0 → meets (row_of p FadeTime) l ≡ true
 unfolding time_field_refusal when◌then◌else◌
 time_good p l =
     by_bool (meets (row_of p FadeTime) l) (λ e. rw e (λ h. refl)) (λ e. rw e (λ h. absurd (omega arith)))
@@ -98,14 +93,14 @@ operation_good p (StepDownBy x) h = tt
 operation_good p (Goto x) h = tt
 operation_good p Relinquish h = tt
 
-command_with_duration_good : (p : Parameters) (o : Operation) (duration : TimeField) → OperationInRange p o → RequestInRange p (command_with_duration p o duration)
+command_with_duration_good : (p : Parameters) (o : Operation) (duration : Option ℕ) → OperationInRange p o → RequestInRange p (command_with_duration p o duration)
 unfolding command_with_duration command_lasting when◌then◌else◌
-command_with_duration_good p o (Time d) g =
+command_with_duration_good p o (Some d) g =
     by_bool (eqb d 0) (λ e. rw e ((g, tt))) (λ e. rw e
     (by_bool (within 100 p.duration d) (λ e. rw e ((g, within_of 100 p.duration d e))) (λ e. rw e (omega arith))))
-command_with_duration_good p o NoTime g = (g, tt)
+command_with_duration_good p o None g = (g, tt)
 
-pub command_of_good : (p : Parameters) (o : Operation) (duration : TimeField) → RequestInRange p (command_of p o duration)
+pub command_of_good : (p : Parameters) (o : Operation) (duration : Option ℕ) → RequestInRange p (command_of p o duration)
 unfolding command_of command_request_by when◌then◌else◌
 command_of_good p o duration =
     by_eq
@@ -120,7 +115,7 @@ command_request_good p o d = command_of_good p o (plain_duration d)
 
 -- A COMMAND THAT WAS TAKEN: its fields are in range, and it has the operation and the duration that were
 -- asked
-pub record Taken (p : Parameters) (o : Operation) (duration : TimeField) (k : Command) : Type 0 where
+pub record Taken (p : Parameters) (o : Operation) (duration : Option ℕ) (k : Command) : Type 0 where
   pub ranges : fields_refusal p (fields_of o) ≡ 0
   pub operation : k.operation ≡ o
   pub lasting : duration_field k.duration ≡ duration
@@ -131,16 +126,16 @@ asked_for {o} {d} k h = let same : record { operation = o; duration = d } ≡ k 
 pub refused_never : {r : ℕ} (k : Command) → Refuse r ≡ ToOutput (Commands k) → ⊥
 refused_never k h = let z : ◌≡◌ {A = ℕ} 0 1 = cc in omega arith
 
-durations : (p : Parameters) (o : Operation) (duration : TimeField) (k : Command) → command_with_duration p o duration ≡ ToOutput (Commands k)
+durations : (p : Parameters) (o : Operation) (duration : Option ℕ) (k : Command) → command_with_duration p o duration ≡ ToOutput (Commands k)
     → (k.operation ≡ o) × (duration_field k.duration ≡ duration)
 unfolding command_with_duration command_lasting duration_field when◌then◌else◌
-durations p o (Time d) k =
+durations p o (Some d) k =
     by_eq d 0
-    (λ z e. rw e (λ h. let q = asked_for k h in (q.0, q.1 ∙ ap Time (sym z))))
+    (λ z e. rw e (λ h. let q = asked_for k h in (q.0, q.1 ∙ ap Some (sym z))))
     (λ z e. rw e (by_bool (within 100 p.duration d) (λ q. rw q (λ h. asked_for k h)) (λ q. rw q (λ h. absurd (refused_never k h)))))
-durations p o NoTime k = λ h. asked_for k h
+durations p o None k = λ h. asked_for k h
 
-pub command_taken : (p : Parameters) (o : Operation) (duration : TimeField) (k : Command) → command_of p o duration ≡ ToOutput (Commands k) → Taken p o duration k
+pub command_taken : (p : Parameters) (o : Operation) (duration : Option ℕ) (k : Command) → command_of p o duration ≡ ToOutput (Commands k) → Taken p o duration k
 unfolding command_of command_request_by when◌then◌else◌
 command_taken p o duration k =
     by_eq (fields_refusal p (fields_of o)) 0

@@ -1,8 +1,8 @@
 -- The record rules as facts, which the theorems use.
+use Rattle.std.specs.Prelude.{Option, Some, None}
 use mathlib.Core.Path.{◌≡◌}
 use mathlib.Core.Logic.{◌≢◌}
 use mathlib.Core.Bool.{true, false}
-use mathlib.Core.Option.{Option, none, some}
 use Prim.Native.Nat.{ℕ, ◌+◌, ◌-◌, ◌*◌, ◌≤◌, ◌<◌, min}
 use lib.ListN.{length}
 use Rattle.lighting_outputs.specs.Paper.Parameters.{Parameters, longest_movement}
@@ -60,8 +60,8 @@ pub record SettingsInRange (p : Parameters) (c : Settings) : Type 0 where
   pub slot : Meets (row_of p CommandPriority) c.slot
 
 abbrev pub SlotLevel : Option ℕ → Type 0
-SlotLevel none = Unit {0}
-SlotLevel (some v) = IsLevel v
+SlotLevel None = Unit {0}
+SlotLevel (Some v) = IsLevel v
 
 pub record Filled (s : Slots) : Type 0 where
   pub size : length s.levels ≡ slot_count

@@ -1,4 +1,5 @@
 -- What a write of a property leaves meets the property's row, whichever it is.
+use Rattle.std.specs.Prelude.{Option, Some, None}
 use mathlib.Core.Path.{◌≡◌, refl, sym, ap, ◌∙◌}
 use mathlib.Core.Bool.{true, false≢true}
 use mathlib.Core.List.{List, [], ◌∷◌}
@@ -11,8 +12,6 @@ use Rattle.lighting_outputs.specs.Paper.Parameters.{Parameters}
 use Rattle.lighting_levels.specs.Paper.Level.{real, level_of, limit_of}
 use Rattle.lighting_outputs.specs.Paper.Rows.{row_of, within, is_amount, is_priority}
 use Rattle.lighting_outputs.specs.Paper.Properties.{number_of, properties, numbered, property_of, same, change_to, change_by, change_of}
-use Rattle.lighting_levels.specs.declared.Level.{Level}
-use Rattle.lighting_levels.specs.declared.Level.TheVariants.{Units, OutOfRange}
 use Rattle.lighting_outputs.specs.declared.Property.{Property}
 use Rattle.lighting_outputs.specs.declared.Property.TheVariants.{RelinquishDefault, FadeTime, RampRate, StepIncrement, BlinkEnable, BlinkTime, BlinkWarnDelay, MinValue, MaxValue, CommandPriority, ElapsedActiveTime, PresentValue, ProgressValue, InProcess, LastOperation, LastLevel, LastRate, LastStep, LastFadeTime, LastDuration, BinaryActiveValue, BinaryInactiveValue, Polarity, BinaryPresentValue, RelayState, SlotValue, Unknown}
 use Rattle.lighting_outputs.specs.declared.Range.{Range}
@@ -31,11 +30,11 @@ pub priority_of : (n : ℕ) → is_priority n ≡ true → Slot (n - 1)
 unfolding is_priority when◌then◌else◌
 priority_of n h = by_eq n 0 (λ z e. absurd (false≢true (rw e at h))) (λ z e. slot_of (n - 1) (rw e at h))
 
-to_good : (p : Parameters) (n : Property) (l : Level)
-    → ((v : ℕ) → l ≡ Units v → RequestInRange p (ToOutput (Change n v))) → RequestInRange p (change_to n l)
+to_good : (p : Parameters) (n : Property) (l : Option ℕ)
+    → ((v : ℕ) → l ≡ Some v → RequestInRange p (ToOutput (Change n v))) → RequestInRange p (change_to n l)
 unfolding change_to
-to_good p n (Units v) f = f v refl
-to_good p n OutOfRange f = omega arith
+to_good p n (Some v) f = f v refl
+to_good p n None f = omega arith
 
 row_good : (p : Parameters) (r : Range) (n : Property) (x : ℕ)
     → ((v : ℕ) → Meets r v → RequestInRange p (ToOutput (Change n v))) → RequestInRange p (change_by r n x)

@@ -1,6 +1,7 @@
 -- HOW LONG A LAMP GIVES LIGHT: the engine's count of a stretch (specs/Engine/Light.antt) comes to its
 -- milliseconds one by one, of any record at all: fades and ramps, up and down, from any place of the
 -- movement, with a way, a rate or a length of 0 too.
+use Rattle.std.specs.Prelude.{Option, Some, None}
 use mathlib.Core.Path.{◌≡◌, refl, sym, ap, subst, ◌∙◌}
 use mathlib.Core.Bool.{Bool, true, false, not}
 use Prim.Native.Nat.{ℕ, zero, suc, ◌+◌, ◌-◌, ◌*◌, ◌/◌, ◌≤◌, ◌<◌, min, max}
@@ -14,8 +15,6 @@ use Rattle.lighting_outputs.specs.Engine.Light.{last_short, moment_after, gone_a
 use Rattle.lighting_outputs.specs.declared.Pace.{Pace}
 use Rattle.lighting_outputs.specs.declared.Pace.TheVariants.{Fade, Ramp}
 use Rattle.lighting_outputs.specs.declared.Movement.{Movement}
-use Rattle.lighting_outputs.specs.declared.Moment.{Moment}
-use Rattle.lighting_outputs.specs.declared.Moment.TheVariants.{Never, At}
 use Rattle.lighting_outputs.specs.declared.Activity.{Activity}
 use Rattle.lighting_outputs.specs.declared.Activity.TheVariants.{Still, Moving, Warned}
 use Rattle.lighting_outputs.specs.declared.Output.{Output}
@@ -23,29 +22,29 @@ use Rattle.lighting_levels.proofs.Split.{by_eq, by_lt, by_le, leb_yes, leb_no, e
 use Rattle.lighting_outputs.proofs.Time.Way.{distance_moved_most}
 
 -- ONE BY ONE: a lamp that gives light up to a moment, its turn, or from it on
-abbrev is_before : ℕ → Moment → Bool
-is_before t Never = true
-is_before t (At moment) = ltb t moment
+abbrev is_before : ℕ → Option ℕ → Bool
+is_before t None = true
+is_before t (Some moment) = ltb t moment
 
-count_until : (from n : ℕ) (o : Output) (turn : Moment) → ((t : ℕ) → lit t o ≡ is_before t turn) → lit_milliseconds from n o ≡ count_before from n turn
+count_until : (from n : ℕ) (o : Output) (turn : Option ℕ) → ((t : ℕ) → lit t o ≡ is_before t turn) → lit_milliseconds from n o ≡ count_before from n turn
 unfolding lit_milliseconds count_before when◌then◌else◌
-count_until from zero o Never h = refl
-count_until from zero o (At moment) h = omega arith
-count_until from (suc n) o Never h = rw (h from, count_until (suc from) n o Never h) (omega arith)
-count_until from (suc n) o (At moment) h =
+count_until from zero o None h = refl
+count_until from zero o (Some moment) h = omega arith
+count_until from (suc n) o None h = rw (h from, count_until (suc from) n o None h) (omega arith)
+count_until from (suc n) o (Some moment) h =
     by_lt from moment
-    (λ l e. rw (h from, e, count_until (suc from) n o (At moment) h) (omega arith))
-    (λ l e. rw (h from, e, count_until (suc from) n o (At moment) h) (omega arith))
+    (λ l e. rw (h from, e, count_until (suc from) n o (Some moment) h) (omega arith))
+    (λ l e. rw (h from, e, count_until (suc from) n o (Some moment) h) (omega arith))
 
-count_since_lem : (from n : ℕ) (o : Output) (turn : Moment) → ((t : ℕ) → lit t o ≡ not (is_before t turn)) → lit_milliseconds from n o ≡ count_since from n turn
+count_since_lem : (from n : ℕ) (o : Output) (turn : Option ℕ) → ((t : ℕ) → lit t o ≡ not (is_before t turn)) → lit_milliseconds from n o ≡ count_since from n turn
 unfolding lit_milliseconds count_since when◌then◌else◌
-count_since_lem from zero o Never h = refl
-count_since_lem from zero o (At moment) h = omega arith
-count_since_lem from (suc n) o Never h = rw (h from, count_since_lem (suc from) n o Never h) (omega arith)
-count_since_lem from (suc n) o (At moment) h =
+count_since_lem from zero o None h = refl
+count_since_lem from zero o (Some moment) h = omega arith
+count_since_lem from (suc n) o None h = rw (h from, count_since_lem (suc from) n o None h) (omega arith)
+count_since_lem from (suc n) o (Some moment) h =
     by_lt from moment
-    (λ l e. rw (h from, e, count_since_lem (suc from) n o (At moment) h) (omega arith))
-    (λ l e. rw (h from, e, count_since_lem (suc from) n o (At moment) h) (omega arith))
+    (λ l e. rw (h from, e, count_since_lem (suc from) n o (Some moment) h) (omega arith))
+    (λ l e. rw (h from, e, count_since_lem (suc from) n o (Some moment) h) (omega arith))
 
 -- THE LAST k AT WHICH u UNITS ARE NOT YET GONE: up to it they are not, after it they are
 still_short : (u s w k : ℕ) → 0 < u → 0 < s → k ≤ last_short u s w → s * k / w < u
@@ -171,12 +170,12 @@ module _ (o : Output) (m : Movement) (moves : o.activity ≡ Moving m) where
       by_eq m.start 0
       (λ z e. rw e
       (by_eq m.target 0
-      (λ g f. rw f (sym (count_since_lem from n o Never (λ t. never t z g))))
+      (λ g f. rw f (sym (count_since_lem from n o None (λ t. never t z g))))
       (λ g f. rw f (sym (count_since_lem from n o (gone_at 1 s w m) (λ t. rising s w t (way m.target (omega arith)) z (omega arith)))))))
       (λ h e. rw e
       (by_eq m.target 0
       (λ g f. rw f (sym (count_until from n o (gone_at m.start s w m) (λ t. falling s w t (way m.start (omega arith)) (omega arith) g))))
-      (λ g f. rw f (sym (count_until from n o Never (λ t. always t (omega arith) (omega arith)))))))
+      (λ g f. rw f (sym (count_until from n o None (λ t. always t (omega arith) (omega arith)))))))
     where
       way : (d : ℕ) → max m.start m.target ≡ d → Goes s w d m
       way d e = subst (λ (x : ℕ). Goes s w x m) e goes
@@ -198,8 +197,8 @@ counted_resting : (from n v : ℕ) (o : Output) → ((t : ℕ) → progress_valu
 unfolding lit_resting count_before count_since when◌then◌else◌
 counted_resting from n v o h =
     by_lt 0 v
-    (λ l e. rw e (sym (count_until from n o Never (λ t. lit_resting_lem t v o (h t) ∙ e))))
-    (λ l e. rw e (sym (count_since_lem from n o Never (λ t. lit_resting_lem t v o (h t) ∙ e))))
+    (λ l e. rw e (sym (count_until from n o None (λ t. lit_resting_lem t v o (h t) ∙ e))))
+    (λ l e. rw e (sym (count_since_lem from n o None (λ t. lit_resting_lem t v o (h t) ∙ e))))
 
 -- THE COUNT IS THE MILLISECONDS ONE BY ONE
 pub counted : (from n : ℕ) (o : Output) → lit_stretch from n o ≡ lit_milliseconds from n o

@@ -4,6 +4,7 @@
 -- nothing falls due, which the engine leaves out, would have judged it for nothing (Judged.antt). Neither the
 -- slots nor what lights a lamp play a part: of the count of a stretch it asks that it is its milliseconds one
 -- by one (Light.antt).
+use Rattle.std.specs.Prelude.{Option, Some, None}
 use mathlib.Core.Path.{◌≡◌, refl, sym, ap, ap₂, ◌∙◌}
 use mathlib.Core.Logic.{◌≢◌}
 use mathlib.Core.Bool.{true, false, false≢true}
@@ -24,8 +25,6 @@ use Rattle.lighting_outputs.specs.declared.Activity.{Activity}
 use Rattle.lighting_outputs.specs.declared.Activity.TheVariants.{Still, Moving, Warned}
 use Rattle.lighting_outputs.specs.declared.Timer.{Timer}
 use Rattle.lighting_outputs.specs.declared.Timer.TheVariants.{Off, Running}
-use Rattle.lighting_outputs.specs.declared.Moment.{Moment}
-use Rattle.lighting_outputs.specs.declared.Moment.TheVariants.{Never, At}
 use Rattle.lighting_outputs.specs.declared.Relay.{Relay}
 use Rattle.lighting_outputs.specs.declared.Output.{Output}
 use Rattle.lighting_outputs.specs.Paper.Slots.{Slots}
@@ -35,11 +34,11 @@ use Rattle.lighting_outputs.specs.Paper.Record.{with_burning, with_relay}
 use Rattle.lighting_outputs.specs.Paper.Passing.{lit_milliseconds, with_burned, timer_due, phase_end, activity_due, due_moments, is_due, timer_at, expired, end_movement_of, end_movement_by, end_movement_on_expiry, delayed, next_phase, next_activity, activity_at, slots_at, after_events, fire, tick, ticks}
 
 -- every due moment is after t
-abbrev pub MomentAfter : ℕ → Moment → Type 0
-MomentAfter t Never = Unit {0}
-MomentAfter t (At d) = t < d
+abbrev pub MomentAfter : ℕ → Option ℕ → Type 0
+MomentAfter t None = Unit {0}
+MomentAfter t (Some d) = t < d
 
-abbrev AllAfter : ℕ → List Moment → Type 0
+abbrev AllAfter : ℕ → List (Option ℕ) → Type 0
 AllAfter t l = Every (MomentAfter t) l
 
 pub record After (t : ℕ) (o : Output) : Type 0 where
@@ -50,19 +49,19 @@ pub record Calm (t : ℕ) (o : Output) : Type 0 where
   pub burnt : o.burning ≤ t
   pub judged : Judged o
 
-all_earlier : {t t' : ℕ} (l : List Moment) → t ≤ t' → AllAfter t' l → AllAfter t l
+all_earlier : {t t' : ℕ} (l : List (Option ℕ)) → t ≤ t' → AllAfter t' l → AllAfter t l
 all_earlier [] h a = tt
-all_earlier (Never ∷ l) h a = (tt, all_earlier l h a.1)
-all_earlier (At d ∷ l) h a = (omega (arith, a.0), all_earlier l h a.1)
+all_earlier (None ∷ l) h a = (tt, all_earlier l h a.1)
+all_earlier (Some d ∷ l) h a = (omega (arith, a.0), all_earlier l h a.1)
 
 pub earlier : {t t' : ℕ} (o : Output) → t ≤ t' → After t' o → After t o
 earlier o h a = record { all = all_earlier (due_moments o) h a.all }
 
 -- WHERE NOTHING IS DUE, NOTHING HAPPENS
-not_due : (t : ℕ) (d : Moment) → MomentAfter t d → is_due t d ≡ false
+not_due : (t : ℕ) (d : Option ℕ) → MomentAfter t d → is_due t d ≡ false
 unfolding is_due
-not_due t Never a = refl
-not_due t (At d) a = eqb_miss {a = d} {b = t} (omega arith)
+not_due t None a = refl
+not_due t (Some d) a = eqb_miss {a = d} {b = t} (omega arith)
 
 idle : (t : ℕ) (o : Output) → is_due t (timer_due o.timer) ≡ false → is_due t (activity_due o.activity) ≡ false → fire t o ≡ after_events o
 unfolding fire timer_at expired end_movement_on_expiry activity_at slots_at when◌then◌else◌
@@ -219,10 +218,10 @@ ticks_add (suc m) n t o =
     ∙ ap (λ (j : ℕ). ticks n j (ticks m (suc t) (tick t o))) (omega arith)
 
 -- AFTER A MOMENT BEFORE WHICH NOTHING WAS DUE, every due moment is later again
-not_yet : (n t : ℕ) (d : Moment) → t ≡ suc n → MomentAfter n d → is_due t d ≡ false → MomentAfter t d
+not_yet : (n t : ℕ) (d : Option ℕ) → t ≡ suc n → MomentAfter n d → is_due t d ≡ false → MomentAfter t d
 unfolding is_due
-not_yet n t Never p a e = tt
-not_yet n t (At d) p a e = by_eq d t (λ q e'. absurd (false≢true (sym e ∙ e'))) (λ q e'. omega arith)
+not_yet n t None p a e = tt
+not_yet n t (Some d) p a e = by_eq d t (λ q e'. absurd (false≢true (sym e ∙ e'))) (λ q e'. omega arith)
 
 -- a duration leaves what is under way, or ends it
 end_movement_on_expiry_either : (P : Activity → Type 0) (t : ℕ) (m : Timer) (a : Activity) → P Still → P a → P (end_movement_on_expiry t m a)
@@ -280,9 +279,9 @@ fire_after t o a = record { all = (timer, (activity (end_movement_on_expiry (suc
 
 -- WHAT IS STILL TO COME: how many due moments an output can yet meet, its next ones and the end that follows
 -- a warning's turn
-abbrev moments : Moment → ℕ
-moments Never = 0
-moments (At d) = 1
+abbrev moments : Option ℕ → ℕ
+moments None = 0
+moments (Some d) = 1
 
 abbrev phases : Phase → ℕ
 phases Blink = 1
@@ -302,9 +301,9 @@ count o = moments (timer_due o.timer) + count_act o.activity
 count_three : (o : Output) → count o ≤ 3
 count_three o = omega (arith, next (timer_due o.timer), next (activity_due o.activity), end o.activity)
   where
-    next : (d : Moment) → moments d ≤ 1
-    next Never = omega arith
-    next (At d) = omega arith
+    next : (d : Option ℕ) → moments d ≤ 1
+    next None = omega arith
+    next (Some d) = omega arith
 
     phase : (p : Phase) → phases p ≤ 1
     phase Blink = omega arith
@@ -319,14 +318,14 @@ none_left : (t : ℕ) (o : Output) → count o ≤ 0 → After t o
 none_left t o h =
     record { all = (none (timer_due o.timer) (omega arith), (none (activity_due o.activity) (omega arith), tt)) }
   where
-    none : (d : Moment) → moments d ≤ 0 → MomentAfter t d
-    none Never k = tt
-    none (At d) k = omega arith
+    none : (d : Option ℕ) → moments d ≤ 0 → MomentAfter t d
+    none None k = tt
+    none (Some d) k = omega arith
 
-moment_hit : (t : ℕ) (d : Moment) → is_due t d ≡ true → 1 ≤ moments d
+moment_hit : (t : ℕ) (d : Option ℕ) → is_due t d ≡ true → 1 ≤ moments d
 unfolding is_due
-moment_hit t Never h = absurd (false≢true h)
-moment_hit t (At d) h = omega arith
+moment_hit t None h = absurd (false≢true h)
+moment_hit t (Some d) h = omega arith
 
 next_fewer : (t : ℕ) (a : Activity) → is_due t (activity_due a) ≡ true → suc (count_act (next_activity a)) ≤ count_act a
 unfolding is_due activity_due next_activity
@@ -349,37 +348,37 @@ due_le : (to : ℕ) (o : Output) → due to o ≤ to
 unfolding due sooner
 due_le to o = go (due_moments o)
   where
-    go : (l : List Moment) → soonest to l ≤ to
+    go : (l : List (Option ℕ)) → soonest to l ≤ to
     go [] = omega arith
-    go (Never ∷ l) = go l
-    go (At d ∷ l) = omega (arith, go l)
+    go (None ∷ l) = go l
+    go (Some d ∷ l) = omega (arith, go l)
 
 pub before_due : (t to : ℕ) (o : Output) → t < due to o → After t o
 unfolding due sooner
 before_due t to o h = record { all = go (due_moments o) h }
   where
-    go : (l : List Moment) → t < soonest to l → AllAfter t l
+    go : (l : List (Option ℕ)) → t < soonest to l → AllAfter t l
     go [] k = tt
-    go (Never ∷ l) k = (tt, go l k)
-    go (At d ∷ l) k = (omega arith, go l (omega arith))
+    go (None ∷ l) k = (tt, go l k)
+    go (Some d ∷ l) k = (omega arith, go l (omega arith))
 
 due_later : (t to : ℕ) (o : Output) → t < to → After t o → t < due to o
 unfolding due sooner
 due_later t to o h a = go (due_moments o) a.all
   where
-    go : (l : List Moment) → AllAfter t l → t < soonest to l
+    go : (l : List (Option ℕ)) → AllAfter t l → t < soonest to l
     go [] k = h
-    go (Never ∷ l) k = go l k.1
-    go (At d ∷ l) k = omega (arith, k.0, go l k.1)
+    go (None ∷ l) k = go l k.1
+    go (Some d ∷ l) k = omega (arith, k.0, go l k.1)
 
 pub due_here : (t : ℕ) (o : Output) → After t o → due t o ≡ t
 unfolding due sooner
 due_here t o a = go (due_moments o) a.all
   where
-    go : (l : List Moment) → AllAfter t l → soonest t l ≡ t
+    go : (l : List (Option ℕ)) → AllAfter t l → soonest t l ≡ t
     go [] k = refl
-    go (Never ∷ l) k = go l k.1
-    go (At d ∷ l) k = omega (arith, k.0, go l k.1)
+    go (None ∷ l) k = go l k.1
+    go (Some d ∷ l) k = omega (arith, k.0, go l k.1)
 
 -- one event step, from `now` to d before which nothing is due
 event_step_quiet : (now n d : ℕ) (o : Output) → d ≡ suc (now + n) → After (now + n) o → Judged o

@@ -1,8 +1,8 @@
 -- A tick keeps the record rules, and so does the engine's way.
+use Rattle.std.specs.Prelude.{Some, None}
 use mathlib.Core.Path.{◌≡◌, ◌∙◌}
 use mathlib.Core.Logic.{◌≢◌}
 use mathlib.Core.Bool.{true}
-use mathlib.Core.Option.{none, some}
 use Prim.Native.Nat.{ℕ, zero, suc, ◌+◌, ◌-◌, ◌≤◌}
 use native.Mathlib.Nat.{add-zero}
 use native.Mathlib.Omega.{arith}
@@ -41,9 +41,9 @@ record Effect (p : Parameters) (t : ℕ) (c : Settings) (s : Slots) (a : Activit
 pub end_movement_of_acts : (p : Parameters) (t : ℕ) (c : Settings) (s : Slots) (q : ℕ) (a : Activity) → Slot q → Filled s → Acts p t c s a
     → Acts p t c (emptied s q) (end_movement_of q a)
 unfolding end_movement_of when◌then◌else◌
-end_movement_of_acts p t c s q Still g f h = six_kept s f.size q none g.inside g.free ∙ h
+end_movement_of_acts p t c s q Still g f h = six_kept s f.size q None g.inside g.free ∙ h
 end_movement_of_acts p t c s q (Moving m) g f h =
-    let k = six_kept s f.size q none g.inside g.free in
+    let k = six_kept s f.size q None g.inside g.free in
     by_eq m.owner q (λ z e. rw e (k ∙ h.six)) (λ z e. rw e (goes_on z k))
   where
     goes_on : m.owner ≢ q → is_live (emptied s q) slot6 ≡ is_live s slot6 → Moves p t c (emptied s q) m
@@ -51,7 +51,7 @@ end_movement_of_acts p t c s q (Moving m) g f h =
         let w = winner_empty s f.size q g.inside (omega (arith, h.wins)) in
         let z = winning_level_empty s f.size c.default q g.inside (omega (arith, h.wins)) in
         unfold present_value in search arith
-end_movement_of_acts p t c s q (Warned w) g f h = let k = six_kept s f.size q none g.inside g.free in search
+end_movement_of_acts p t c s q (Warned w) g f h = let k = six_kept s f.size q None g.inside g.free in search
 
 expired_effect : (p : Parameters) (t d : ℕ) (c : Settings) (s : Slots) (m : Timer) (a : Activity) → Timed t m → Filled s → Acts p t c s a
     → Effect p t c (expired d m s) (end_movement_on_expiry d m a)
@@ -62,7 +62,7 @@ expired_effect p t d c s m a k f h =
     falls : (n : Timer) → Timed t n → Effect p t c (emptied_by n s) (end_movement_by n a)
     falls Off k = unfold emptied_by end_movement_by in (record { slots = f; activity = h })
     falls (Running q e) k = unfold emptied_by end_movement_by in
-        (record { slots = put_filled s q none f k.0.inside tt; activity = end_movement_of_acts p t c s q a k.0 f h })
+        (record { slots = put_filled s q None f k.0.inside tt; activity = end_movement_of_acts p t c s q a k.0 f h })
 
 -- THE WARNING AND THE MOVEMENT
 phase_effect : (p : Parameters) (t : ℕ) (c : Settings) (s : Slots) (w : Warning) (z : Phase) → Filled s → is_live s slot6 ≡ true → Within 6 15 w.owner
@@ -73,14 +73,14 @@ phase_effect p t c s w Blink f l x y h =
     w.turn
     w.over
     (λ q e. rw e
-    (let k = six_set s f.size (some w.level) in
-    record { slots = put_filled s slot6 (some w.level) f (omega arith) y; activity = search arith }))
-    (λ q e. rw e (record { slots = put_filled s slot6 none f (omega arith) tt; activity = six_set s f.size none }))
+    (let k = six_set s f.size (Some w.level) in
+    record { slots = put_filled s slot6 (Some w.level) f (omega arith) y; activity = search arith }))
+    (λ q e. rw e (record { slots = put_filled s slot6 None f (omega arith) tt; activity = six_set s f.size None }))
 phase_effect p t c s w Delay f l x y h =
-    let f₁ = put_filled s slot6 none f (omega arith) tt in
+    let f₁ = put_filled s slot6 None f (omega arith) tt in
     record {
-      slots = put_filled (emptied s slot6) w.owner none f₁ (omega (arith, x)) tt;
-      activity = six_kept (emptied s slot6) f₁.size w.owner none (omega (arith, x)) (omega (arith, x)) ∙ six_set s f.size none;
+      slots = put_filled (emptied s slot6) w.owner None f₁ (omega (arith, x)) tt;
+      activity = six_kept (emptied s slot6) f₁.size w.owner None (omega (arith, x)) (omega (arith, x)) ∙ six_set s f.size None;
     }
 
 next_effect : (p : Parameters) (t : ℕ) (c : Settings) (s : Slots) (a : Activity) → Filled s → Acts p t c s a

@@ -1,20 +1,18 @@
 -- THE ENGINE's passing of time: from due moment to due moment. proofs/Time/Passing.antt has that it comes to
 -- the plain panel's milliseconds (`ticks` of Paper/Passing.antt), so that nobody need believe this file.
-use Rattle.std.specs.Prelude.{Bool, true, false, List, [], ◌∷◌, ℕ, zero, suc, ◌+◌, ◌-◌, min, ltb}
+use Rattle.std.specs.Prelude.{Bool, true, false, List, [], ◌∷◌, ℕ, zero, suc, ◌+◌, ◌-◌, min, ltb, Option, Some, None}
 use Rattle.lighting_levels.specs.Paper.Choice.{when◌then◌else◌}
-use Rattle.lighting_outputs.specs.declared.Moment.{Moment}
-use Rattle.lighting_outputs.specs.declared.Moment.TheVariants.{Never, At}
 use Rattle.lighting_outputs.specs.declared.Output.{Output}
 use Rattle.lighting_outputs.specs.Paper.Record.{with_burning}
 use Rattle.lighting_outputs.specs.Paper.Passing.{due_moments, is_due, fire}
 use Rattle.lighting_outputs.specs.Engine.Light.{lit_stretch}
 
 -- THE ENGINE: the next due moment, or `to` if nothing falls due before it
-unfoldable pub sooner : ℕ → Moment → ℕ
-sooner to Never = to
-sooner to (At d) = min to d
+unfoldable pub sooner : ℕ → Option ℕ → ℕ
+sooner to None = to
+sooner to (Some d) = min to d
 
-abbrev pub soonest : ℕ → List Moment → ℕ
+abbrev pub soonest : ℕ → List (Option ℕ) → ℕ
 soonest to [] = to
 soonest to (d ∷ l) = sooner (soonest to l) d
 
@@ -34,7 +32,7 @@ with_burned_saturating from n o = burned_by (lit_stretch from n o) o
 
 -- whether one of these moments is d. The engine does something at due moments alone: elsewhere an output that
 -- was judged needs no judging again (proofs/Time/Judged.antt)
-abbrev pub any_due : ℕ → List Moment → Bool
+abbrev pub any_due : ℕ → List (Option ℕ) → Bool
 any_due d [] = false
 any_due d (first ∷ rest) = when is_due d first then true else any_due d rest
 

@@ -1,14 +1,12 @@
 -- THE ENGINE's count of the milliseconds at whose start a lamp gives light, whatever the stretch.
 -- proofs/Time/Light.antt has that it comes to the milliseconds one by one (`lit_milliseconds` of
 -- Paper/Passing.antt), so that nobody need believe this file.
-use Rattle.std.specs.Prelude.{ℕ, ◌+◌, ◌-◌, ◌*◌, ◌/◌, min, max, ltb, eqb}
+use Rattle.std.specs.Prelude.{ℕ, ◌+◌, ◌-◌, ◌*◌, ◌/◌, min, max, ltb, eqb, Option, Some, None}
 use Rattle.lighting_levels.specs.Paper.Choice.{when◌then◌else◌}
 use Rattle.lighting_outputs.specs.Paper.Value.{present_value, in_process}
 use Rattle.lighting_outputs.specs.declared.Pace.{Pace}
 use Rattle.lighting_outputs.specs.declared.Pace.TheVariants.{Fade, Ramp}
 use Rattle.lighting_outputs.specs.declared.Movement.{Movement}
-use Rattle.lighting_outputs.specs.declared.Moment.{Moment}
-use Rattle.lighting_outputs.specs.declared.Moment.TheVariants.{Never, At}
 use Rattle.lighting_outputs.specs.declared.Activity.{Activity}
 use Rattle.lighting_outputs.specs.declared.Activity.TheVariants.{Still, Moving, Warned}
 use Rattle.lighting_outputs.specs.declared.Output.{Output}
@@ -22,20 +20,20 @@ last_short u s w = (u * w - 1) / s
 
 -- and the moment from which on they are: never, where the movement stands or its length is too short. The k
 -- after the last one short is reached as long before the end as it is short of the length
-unfoldable pub moment_after : ℕ → Movement → Moment
-moment_after k m = when ltb k m.length then At (m.over - (m.length - (k + 1))) else Never
+unfoldable pub moment_after : ℕ → Movement → Option ℕ
+moment_after k m = when ltb k m.length then Some (m.over - (m.length - (k + 1))) else None
 
-unfoldable pub gone_at : ℕ → ℕ → ℕ → Movement → Moment
-gone_at u s w m = when eqb s 0 then Never else moment_after (last_short u s w) m
+unfoldable pub gone_at : ℕ → ℕ → ℕ → Movement → Option ℕ
+gone_at u s w m = when eqb s 0 then None else moment_after (last_short u s w) m
 
 -- of the n milliseconds from a moment on, those before the moment d, and those from it on
-unfoldable pub count_before : ℕ → ℕ → Moment → ℕ
-count_before from n Never = n
-count_before from n (At d) = min n (d - from)
+unfoldable pub count_before : ℕ → ℕ → Option ℕ → ℕ
+count_before from n None = n
+count_before from n (Some d) = min n (d - from)
 
-unfoldable pub count_since : ℕ → ℕ → Moment → ℕ
-count_since from n Never = 0
-count_since from n (At d) = n - (d - from)
+unfoldable pub count_since : ℕ → ℕ → Option ℕ → ℕ
+count_since from n None = 0
+count_since from n (Some d) = n - (d - from)
 
 -- A RISE FROM 0 is dark until the first unit of its way is gone, A FALL TO 0 is lit until all of it is, and
 -- no other movement comes to 0

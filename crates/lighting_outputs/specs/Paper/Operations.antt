@@ -1,11 +1,8 @@
 -- The eleven lighting operations: their numbers, and the fields that each has. What properties 0F to 13 read
 -- and the ranges of a command's fields (Frames.antt) come from here.
-use Rattle.std.specs.Prelude.{ℕ, Float}
+use Rattle.std.specs.Prelude.{ℕ, Float, Option, Some, None}
 use Rattle.lighting_outputs.specs.declared.Operation.{Operation}
 use Rattle.lighting_outputs.specs.declared.Operation.TheVariants.{Stop, FadeTo, FadeToOver, RampTo, RampToAtRate, StepUp, StepDown, StepUpBy, StepDownBy, Goto, Relinquish}
-use Rattle.lighting_outputs.specs.declared.RealField.TheVariants.{Real, NoReal}
-use Rattle.lighting_outputs.specs.declared.TimeField.{TimeField}
-use Rattle.lighting_outputs.specs.declared.TimeField.TheVariants.{Time, NoTime}
 use Rattle.lighting_outputs.specs.declared.OperationFields.{OperationFields}
 use Rattle.lighting_outputs.specs.declared.Duration.{Duration}
 use Rattle.lighting_outputs.specs.declared.Duration.TheVariants.{Lasts, Cancels, Omitted}
@@ -27,20 +24,20 @@ operation_number Relinquish = 10
 
 -- level, rate, step and fade time, each there or not: none of them, a level, a step
 abbrev pub no_fields : OperationFields
-no_fields = record { level = NoReal; rate = NoReal; step = NoReal; fade = NoTime }
+no_fields = record { level = None; rate = None; step = None; fade = None }
 
 abbrev pub level_alone : Float → OperationFields
-level_alone x = record { level = Real x; rate = NoReal; step = NoReal; fade = NoTime }
+level_alone x = record { level = Some x; rate = None; step = None; fade = None }
 
 abbrev pub step_alone : Float → OperationFields
-step_alone x = record { level = NoReal; rate = NoReal; step = Real x; fade = NoTime }
+step_alone x = record { level = None; rate = None; step = Some x; fade = None }
 
 unfoldable pub fields_of : Operation → OperationFields
 fields_of Stop = no_fields
 fields_of (FadeTo x) = level_alone x
-fields_of (FadeToOver x l) = record { level = Real x; rate = NoReal; step = NoReal; fade = Time l }
+fields_of (FadeToOver x l) = record { level = Some x; rate = None; step = None; fade = Some l }
 fields_of (RampTo x) = level_alone x
-fields_of (RampToAtRate x r) = record { level = Real x; rate = Real r; step = NoReal; fade = NoTime }
+fields_of (RampToAtRate x r) = record { level = Some x; rate = Some r; step = None; fade = None }
 fields_of StepUp = no_fields
 fields_of StepDown = no_fields
 fields_of (StepUpBy x) = step_alone x
@@ -49,7 +46,7 @@ fields_of (Goto x) = level_alone x
 fields_of Relinquish = no_fields
 
 -- 'duration may be missing': a command's duration as a field
-unfoldable pub duration_field : Duration → TimeField
-duration_field (Lasts d) = Time d
-duration_field Cancels = Time 0
-duration_field Omitted = NoTime
+unfoldable pub duration_field : Duration → Option ℕ
+duration_field (Lasts d) = Some d
+duration_field Cancels = Some 0
+duration_field Omitted = None

@@ -1,6 +1,6 @@
 -- 'The plain panel': how an output passes from one moment to another. The plain panel lives one millisecond
 -- after another; the engine goes from due moment to due moment. Both do the same at a moment (`fire`).
-use Rattle.std.specs.Prelude.{Bool, false, List, [], ◌∷◌, ℕ, zero, suc, ◌+◌, ltb, eqb}
+use Rattle.std.specs.Prelude.{Bool, false, List, [], ◌∷◌, ℕ, zero, suc, ◌+◌, ltb, eqb, Option, Some, None}
 use Rattle.lighting_levels.specs.Paper.Choice.{when◌then◌else◌}
 use Rattle.lighting_outputs.specs.declared.Phase.{Phase}
 use Rattle.lighting_outputs.specs.declared.Phase.TheVariants.{Blink, Delay}
@@ -9,8 +9,6 @@ use Rattle.lighting_outputs.specs.declared.Activity.{Activity}
 use Rattle.lighting_outputs.specs.declared.Activity.TheVariants.{Still, Moving, Warned}
 use Rattle.lighting_outputs.specs.declared.Timer.{Timer}
 use Rattle.lighting_outputs.specs.declared.Timer.TheVariants.{Off, Running}
-use Rattle.lighting_outputs.specs.declared.Moment.{Moment}
-use Rattle.lighting_outputs.specs.declared.Moment.TheVariants.{Never, At}
 use Rattle.lighting_outputs.specs.declared.Output.{Output}
 use Rattle.lighting_outputs.specs.Paper.Slots.{Slots, slot6, emptied, filled}
 use Rattle.lighting_outputs.specs.Paper.Value.{present_value, lit}
@@ -27,27 +25,27 @@ unfoldable pub with_burned : ℕ → ℕ → Output → Output
 with_burned from n o = with_burning o (o.burning + lit_milliseconds from n o)
 
 -- WHEN SOMETHING FALLS DUE: a running duration at its own moment
-unfoldable pub timer_due : Timer → Moment
-timer_due Off = Never
-timer_due (Running slot due) = At due
+unfoldable pub timer_due : Timer → Option ℕ
+timer_due Off = None
+timer_due (Running slot due) = Some due
 
 -- a warning at the end of its phase: 'Slot 6 holds 0 for B ms', until the turn, 'then Y for D ms'
 unfoldable pub phase_end : Warning → Phase → ℕ
 phase_end w Blink = w.turn
 phase_end w Delay = w.over
 
-unfoldable pub activity_due : Activity → Moment
-activity_due Still = Never
-activity_due (Moving m) = At m.over
-activity_due (Warned w) = At (phase_end w w.phase)
+unfoldable pub activity_due : Activity → Option ℕ
+activity_due Still = None
+activity_due (Moving m) = Some m.over
+activity_due (Warned w) = Some (phase_end w w.phase)
 
 -- all that can fall due on an output, each with its next moment
-abbrev pub due_moments : Output → List Moment
+abbrev pub due_moments : Output → List (Option ℕ)
 due_moments o = timer_due o.timer ∷ activity_due o.activity ∷ []
 
-unfoldable pub is_due : ℕ → Moment → Bool
-is_due t Never = false
-is_due t (At d) = eqb d t
+unfoldable pub is_due : ℕ → Option ℕ → Bool
+is_due t None = false
+is_due t (Some d) = eqb d t
 
 -- WHAT FALLS DUE at the moment t. 'then a due duration empties its slot': the timer and the slots after it
 unfoldable pub timer_at : ℕ → Timer → Timer

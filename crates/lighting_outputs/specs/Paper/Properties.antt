@@ -1,7 +1,6 @@
 -- 'An output's record': the table of properties, what a write of each asks and changes, and what each reads
 -- as.
-use Rattle.std.specs.Prelude.{Bool, List, [], ◌∷◌, ℕ, ◌+◌, ◌-◌, ◌/◌, ◌%◌, min, ltb, leb, eqb, Float}
-use Rattle.std.proofs.Math.Option.{Option, none, some}
+use Rattle.std.specs.Prelude.{Bool, List, [], ◌∷◌, ℕ, ◌+◌, ◌-◌, ◌/◌, ◌%◌, min, ltb, leb, eqb, Float, Option, Some, None}
 use Rattle.lighting_levels.specs.Paper.Choice.{when◌then◌else◌}
 use Rattle.lighting_outputs.specs.Paper.Parameters.{Parameters}
 use Rattle.lighting_outputs.specs.Paper.Answers.{level_refusal}
@@ -19,15 +18,9 @@ use Rattle.lighting_outputs.specs.declared.Activity.{Activity}
 use Rattle.lighting_outputs.specs.declared.Activity.TheVariants.{Still, Moving, Warned}
 use Rattle.lighting_outputs.specs.declared.Duration.{Duration}
 use Rattle.lighting_outputs.specs.declared.Duration.TheVariants.{Lasts, Cancels, Omitted}
-use Rattle.lighting_outputs.specs.declared.RealField.{RealField}
-use Rattle.lighting_outputs.specs.declared.RealField.TheVariants.{Real, NoReal}
-use Rattle.lighting_outputs.specs.declared.TimeField.{TimeField}
-use Rattle.lighting_outputs.specs.declared.TimeField.TheVariants.{Time, NoTime}
 use Rattle.lighting_outputs.specs.declared.Output.{Output}
 use Rattle.lighting_outputs.specs.declared.Answer.{Answer}
 use Rattle.lighting_outputs.specs.declared.Answer.TheVariants.{Value, Absent, Refused}
-use Rattle.lighting_levels.specs.declared.Level.{Level}
-use Rattle.lighting_levels.specs.declared.Level.TheVariants.{Units, OutOfRange}
 use Rattle.lighting_outputs.specs.declared.Property.{Property}
 use Rattle.lighting_outputs.specs.declared.Property.TheVariants.{RelinquishDefault, FadeTime, RampRate, StepIncrement, BlinkEnable, BlinkTime, BlinkWarnDelay, MinValue, MaxValue, CommandPriority, ElapsedActiveTime, PresentValue, ProgressValue, InProcess, LastOperation, LastLevel, LastRate, LastStep, LastFadeTime, LastDuration, BinaryActiveValue, BinaryInactiveValue, Polarity, BinaryPresentValue, RelayState, SlotValue, Unknown}
 use Rattle.lighting_outputs.specs.declared.Range.{Range}
@@ -111,14 +104,14 @@ same one other = eqb (number_of one) (number_of other)
 -- WRITES, kind 04: the value x, of 32 bits, as the property's row (Rows.antt) has it kept, or the refusal
 -- that it meets: 'property unknown, or not writable' is 9, a priority's is 10, a REAL's 11, a whole number's
 -- 12
-unfoldable pub change_to : Property → Level → Request
-change_to property (Units v) = ToOutput (Change property v)
-change_to property OutOfRange = Refuse (level_refusal OutOfRange)
+unfoldable pub change_to : Property → Option ℕ → Request
+change_to property (Some v) = ToOutput (Change property v)
+change_to property None = Refuse (level_refusal None)
 
 unfoldable pub change_by : Range → Property → ℕ → Request
 change_by Percent property x = change_to property (level_of (real x))
 change_by Limit property x = change_to property (limit_of (real x))
-change_by Amount property x = when is_amount (real x) then ToOutput (Change property x) else Refuse (level_refusal OutOfRange)
+change_by Amount property x = when is_amount (real x) then ToOutput (Change property x) else Refuse (level_refusal None)
 change_by (Whole low high) property x = when within low high x then ToOutput (Change property x) else Refuse 12
 change_by Priority property x = when is_priority x then ToOutput (Change property (x - 1)) else Refuse 10
 change_by ReadOnly property x = Refuse 9
@@ -185,8 +178,8 @@ level_answer v = Value (read_out v)
 
 -- '21 to 30 slots 1 to 16 (Absent if not live)'
 unfoldable pub level_or_absent : Option ℕ → Answer
-level_or_absent none = Absent
-level_or_absent (some v) = level_answer v
+level_or_absent None = Absent
+level_or_absent (Some v) = level_answer v
 
 unfoldable pub slot_answer : Slots → ℕ → Answer
 slot_answer s i = level_or_absent (slot s i)
@@ -203,13 +196,13 @@ elapsed_active burning = min 4294967295 (burning / 1000)
 unfoldable pub real_answer : Float → Answer
 real_answer amount = Value (bits amount)
 
-unfoldable pub real_field_answer : RealField → Answer
-real_field_answer (Real amount) = real_answer amount
-real_field_answer NoReal = Absent
+unfoldable pub real_field_answer : Option Float → Answer
+real_field_answer (Some amount) = real_answer amount
+real_field_answer None = Absent
 
-unfoldable pub time_field_answer : TimeField → Answer
-time_field_answer (Time fade) = Value fade
-time_field_answer NoTime = Absent
+unfoldable pub time_field_answer : Option ℕ → Answer
+time_field_answer (Some fade) = Value fade
+time_field_answer None = Absent
 
 unfoldable pub last_duration : Duration → Answer
 last_duration (Lasts d) = Value d

@@ -1,8 +1,7 @@
 -- 'An output's record': the slots. Which are live, what each holds, which one wins. A slot is named by its
 -- index, its priority less one.
 --
-use Rattle.std.specs.Prelude.{Bool, List, [], ◌∷◌, ℕ, suc, ◌-◌, ◌/◌, ◌%◌, ◌^◌, eqb, ltb, set, get_or}
-use Rattle.std.proofs.Math.Option.{Option, none, some}
+use Rattle.std.specs.Prelude.{Bool, List, [], ◌∷◌, ℕ, suc, ◌-◌, ◌/◌, ◌%◌, ◌^◌, eqb, ltb, set, get_or, Option, Some, None}
 use Rattle.std.specs.Int.Bits.{bit_and, bit_or}
 use Rattle.lighting_levels.specs.Paper.Choice.{when◌then◌else◌}
 use Rattle.lighting_levels.specs.Paper.Field.{bit_set}
@@ -22,20 +21,20 @@ slot6 = 5
 -- the lowest bit: the slots that the mask and the levels stand for
 unfoldable pub view : ℕ → List ℕ → List (Option ℕ)
 view m [] = []
-view m (v ∷ l) = (when eqb (m % 2) 1 then some v else none) ∷ view (m / 2) l
+view m (v ∷ l) = (when eqb (m % 2) 1 then Some v else None) ∷ view (m / 2) l
 
 unfoldable pub slots_of : Slots → List (Option ℕ)
 slots_of s = view s.live s.levels
 
 abbrev pub slot : Slots → ℕ → Option ℕ
-slot s i = get_or (slots_of s) i none
+slot s i = get_or (slots_of s) i None
 
 -- 'the winner is the lowest bit set' (the paper's word for the slot that has its way): the first live slot,
 -- or 16, how many there are, where none is live
 unfoldable pub first_live : List (Option ℕ) → ℕ
 first_live [] = 0
-first_live (none ∷ l) = suc (first_live l)
-first_live (some v ∷ l) = 0
+first_live (None ∷ l) = suc (first_live l)
+first_live (Some v ∷ l) = 0
 
 unfoldable pub winner : Slots → ℕ
 winner s = first_live (slots_of s)
@@ -57,14 +56,14 @@ level_set l i v = when ltb i slot_count then set l i v else l
 
 -- slot i emptied, its level 0 then; or filled
 unfoldable pub put : Slots → ℕ → Option ℕ → Slots
-put s i none = record { live = mask_emptied s.live i; levels = level_set s.levels i 0 }
-put s i (some v) = record { live = mask_filled s.live i; levels = level_set s.levels i v }
+put s i None = record { live = mask_emptied s.live i; levels = level_set s.levels i 0 }
+put s i (Some v) = record { live = mask_filled s.live i; levels = level_set s.levels i v }
 
 abbrev pub emptied : Slots → ℕ → Slots
-emptied s i = put s i none
+emptied s i = put s i None
 
 abbrev pub filled : Slots → ℕ → ℕ → Slots
-filled s i v = put s i (some v)
+filled s i v = put s i (Some v)
 
 -- the level of slot i, or d where there is no such slot; and of the winner, or d with no live slot
 unfoldable pub level_at : ℕ → Slots → ℕ → ℕ
