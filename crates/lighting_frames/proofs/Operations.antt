@@ -1,4 +1,5 @@
 -- A command's fields in range, and its operation's number: '0F last operation (kind minus 10)'.
+use Rattle.std.specs.Prelude.{Ok, Err}
 use mathlib.Core.Path.{◌≡◌, refl, sym, ap, ◌∙◌}
 use mathlib.Core.Bool.{Bool}
 use Prim.Native.Nat.{ℕ, ◌-◌, ◌≤◌}
@@ -24,23 +25,23 @@ use Rattle.lighting_frames.specs.declared.Action.TheVariants.{WritesLevel, Empti
 use Rattle.lighting_frames.specs.declared.Kind.{Kind}
 use Rattle.lighting_frames.specs.declared.Kind.TheVariants.{NoKind, ClockKind, CallKind}
 use Rattle.lighting_frames.specs.declared.Call.{Call}
-use Rattle.lighting_frames.specs.declared.Frame.TheVariants.{Bad, Calls}
+use Rattle.lighting_frames.specs.declared.Frame.TheVariants.{Calls}
 use Rattle.lighting_outputs.specs.declared.Property.TheVariants.{LastOperation}
 use Rattle.lighting_outputs.specs.declared.Answer.TheVariants.{Value}
 use Rattle.lighting_outputs.specs.declared.Output.{Output}
-use Rattle.lighting_outputs.specs.declared.Request.TheVariants.{ToOutput}
 use Rattle.lighting_outputs.specs.declared.OutputRequest.TheVariants.{Commands}
 use Rattle.lighting_levels.proofs.Split.{by_bool}
 use Rattle.lighting_frames.proofs.KindTable.{action_byte, kind_byte}
 use Rattle.lighting_outputs.proofs.Rules.CommandRanges.{command_taken}
+use Rattle.lighting_outputs.specs.declared.Refusal.TheVariants.{WrongLength}
 
 -- THE NUMBER. The operation of a command that was taken is the one that its kind says
-command_request_operation : (p : Parameters) (o : Operation) (d : ℕ) (k : Command) → command_request p o d ≡ ToOutput (Commands k) → k.operation ≡ o
+command_request_operation : (p : Parameters) (o : Operation) (d : ℕ) (k : Command) → command_request p o d ≡ Ok (Commands k) → k.operation ≡ o
 unfolding command_request
 command_request_operation p o d k h = (command_taken p o (plain_duration d) k h).operation
 
 request_number : (p : Parameters) (action : Action) (b : Bytes) (command : Command) → 0x10 ≤ action_byte action → action_byte action ≤ 0x1a
-    → request_of p action b ≡ ToOutput (Commands command) → operation_number command.operation ≡ action_byte action - 0x10
+    → request_of p action b ≡ Ok (Commands command) → operation_number command.operation ≡ action_byte action - 0x10
 unfolding request_of operation_number
 request_number p WritesLevel b command k m h = absurd (omega arith)
 request_number p EmptiesSlot b command k m h = absurd (omega arith)
@@ -60,7 +61,7 @@ request_number p Relinquishes b command k m h = ap operation_number (command_req
 request_number p CommandsTagged b command k m h = absurd (omega arith)
 
 -- a frame that was read as a call asks what the table has for its kind
-called_request : (p : Parameters) (c : ℕ) (call call' : Call) → called p c call ≡ Calls call' → call' ≡ call
+called_request : (p : Parameters) (c : ℕ) (call call' : Call) → called p c call ≡ Ok (Calls call') → call' ≡ call
 unfolding called when◌then◌else◌
 called_request p c call call' =
     by_bool (ltb call.station p.stations) (λ e. rw e
@@ -72,34 +73,34 @@ unfolding call_of
 call_asks p action b call e = rw e
 
 number_by : (p : Parameters) (c l : ℕ) (k : Kind) (b : Bytes) (call : Call) (command : Command)
-    → (kind_row (byte_at b 0)).kind ≡ k → parse_by p c l k b ≡ Calls call → call.request ≡ ToOutput (Commands command) → 0x10 ≤ byte_at b 0 → byte_at b 0 ≤ 0x1a
+    → (kind_row (byte_at b 0)).kind ≡ k → parse_by p c l k b ≡ Ok (Calls call) → call.request ≡ Ok (Commands command) → 0x10 ≤ byte_at b 0 → byte_at b 0 ≤ 0x1a
     → operation_number command.operation ≡ byte_at b 0 - 0x10
 unfolding parse_by when◌then◌else◌
 number_by p c l NoKind b call command e h r n m = cc
 number_by p c l ClockKind b call command e h r n m = by_bool (eqb (length b) l) (λ q. clock (rw q at h)) (λ q. bad (rw q at h))
   where
-    clock : clock_of b ≡ Calls call → operation_number command.operation ≡ byte_at b 0 - 0x10
+    clock : clock_of b ≡ Ok (Calls call) → operation_number command.operation ≡ byte_at b 0 - 0x10
     clock h = unfold clock_of in cc
 
-    bad : Bad 3 ≡ Calls call → operation_number command.operation ≡ byte_at b 0 - 0x10
+    bad : Err WrongLength ≡ Ok (Calls call) → operation_number command.operation ≡ byte_at b 0 - 0x10
     bad h = cc
 number_by p c l (CallKind action) b call command e h r n m = by_bool (eqb (length b) l) (λ q. found (rw q at h)) (λ q. bad (rw q at h))
   where
     kind : byte_at b 0 ≡ action_byte action
     kind = kind_byte (byte_at b 0) action e
 
-    found : called p c (call_of p action b) ≡ Calls call → operation_number command.operation ≡ byte_at b 0 - 0x10
+    found : called p c (call_of p action b) ≡ Ok (Calls call) → operation_number command.operation ≡ byte_at b 0 - 0x10
     found h =
         let read : call ≡ call_of p action b = called_request p c (call_of p action b) call h in
         rw kind (request_number p action b command (rw kind at n) (rw kind at m) (sym (call_asks p action b call read) ∙ r))
 
-    bad : Bad 3 ≡ Calls call → operation_number command.operation ≡ byte_at b 0 - 0x10
+    bad : Err WrongLength ≡ Ok (Calls call) → operation_number command.operation ≡ byte_at b 0 - 0x10
     bad h = cc
 
 -- '0F last operation (kind minus 10)': a frame of kind 10 to 1A that is taken as a command has the operation
 -- whose number is its kind less 10
 pub kind_number : (p : Parameters) (c : ℕ) (b : Bytes) (call : Call) (command : Command)
-    → parse p c b ≡ Calls call → call.request ≡ ToOutput (Commands command) → 0x10 ≤ byte_at b 0 → byte_at b 0 ≤ 0x1a
+    → parse p c b ≡ Ok (Calls call) → call.request ≡ Ok (Commands command) → 0x10 ≤ byte_at b 0 → byte_at b 0 ≤ 0x1a
     → operation_number command.operation ≡ byte_at b 0 - 0x10
 unfolding parse
 kind_number p c b call command h r n m = number_by p c _ _ b call command refl h r n m
@@ -107,7 +108,7 @@ kind_number p c b call command h r n m = number_by p c _ _ b call command refl h
 -- and that is what property 0F of its output reads from then on, to a tenant too (§8)
 pub kind_read : (p : Parameters) (c : ℕ) (b : Bytes) (call : Call) (command : Command) (tenant reader : Bool)
     (t t' : ℕ) (o : Output)
-    → parse p c b ≡ Calls call → call.request ≡ ToOutput (Commands command) → 0x10 ≤ byte_at b 0 → byte_at b 0 ≤ 0x1a
+    → parse p c b ≡ Ok (Calls call) → call.request ≡ Ok (Commands command) → 0x10 ≤ byte_at b 0 → byte_at b 0 ≤ 0x1a
     → read_property reader t' (acted tenant t o (Commands command)).output LastOperation ≡ Value (byte_at b 0 - 0x10)
 unfolding acted done after_events commanded commanded_from with_command read_property
 kind_read p c b call command tenant reader t t' o h r n m = ap Value (kind_number p c b call command h r n m)

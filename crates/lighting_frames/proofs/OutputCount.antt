@@ -11,6 +11,7 @@ use Rattle.lighting_frames.specs.declared.Kind.{Kind}
 use Rattle.lighting_frames.specs.declared.Kind.TheVariants.{NoKind, ClockKind, CallKind}
 use Rattle.lighting_frames.proofs.KindTable.{kind_byte}
 use Rattle.lighting_frames.proofs.SetRead.{SetRead, none, refuses, writes, commands, set_read}
+use Rattle.lighting_frames.specs.Paper.Tags.{reads}
 
 module _ (p : Parameters) (n : ℕ) where
   abbrev other : Parameters

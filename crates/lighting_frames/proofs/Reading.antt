@@ -1,5 +1,5 @@
 -- What the reading of a frame leaves in range.
-use Rattle.std.specs.Prelude.{Option, Some, None}
+use Rattle.std.specs.Prelude.{Option, Some, None, Result, Ok, Err}
 use mathlib.Core.Path.{◌≡◌, refl}
 use mathlib.Core.Bool.{true}
 use Prim.Native.Nat.{ℕ, ◌+◌, ◌-◌, ◌*◌, ◌^◌, ◌≤◌, ◌<◌, min}
@@ -21,7 +21,7 @@ use Rattle.lighting_frames.specs.declared.Kind.{Kind}
 use Rattle.lighting_frames.specs.declared.Kind.TheVariants.{NoKind, ClockKind, CallKind}
 use Rattle.lighting_frames.specs.declared.Call.{Call}
 use Rattle.lighting_frames.specs.declared.Frame.{Frame}
-use Rattle.lighting_frames.specs.declared.Frame.TheVariants.{Bad, Clock, Calls}
+use Rattle.lighting_frames.specs.declared.Frame.TheVariants.{Clock, Calls}
 use Rattle.lighting_levels.proofs.Split.{by_bool, by_eq, by_lt}
 use Rattle.lighting_levels.proofs.Ranges.{level_units_lem}
 use Rattle.lighting_frames.proofs.Octets.{octet}
@@ -30,6 +30,7 @@ use Rattle.lighting_outputs.proofs.Rules.RequestInRange.{RequestInRange}
 use Rattle.lighting_outputs.proofs.Rules.Rows.{priority_of, change_good}
 use Rattle.lighting_outputs.proofs.Rules.CommandRanges.{command_request_good}
 use Rattle.lighting_frames.proofs.Tagging.Refused.{tagged_good}
+use Rattle.lighting_outputs.specs.declared.Refusal.{Refusal}
 
 -- KINDS 02 TO 05
 level_good : (p : Parameters) (i : ℕ) (l : Option ℕ) → Slot i → ((v : ℕ) → l ≡ Some v → (least_level * min 1 v ≤ v) × (v ≤ greatest_level)) → RequestInRange p (write_level i l)
@@ -85,10 +86,10 @@ pub record Called (p : Parameters) (c : ℕ) (b : Bytes) (call : Call) : Type 0 
   pub sized : length b ≡ kind_length (byte_at b 0)
   pub kind : is_call (byte_at b 0) ≡ true
 
-abbrev pub FrameInRange : Parameters → ℕ → Bytes → Frame → Type 0
-FrameInRange p c b (Bad r) = 2 ≤ r
-FrameInRange p c b (Clock t) = t < 2 ^ 48
-FrameInRange p c b (Calls call) = Called p c b call
+abbrev pub FrameInRange : Parameters → ℕ → Bytes → Result Frame Refusal → Type 0
+FrameInRange p c b (Err r) = 2 ≤ r
+FrameInRange p c b (Ok (Clock t)) = t < 2 ^ 48
+FrameInRange p c b (Ok (Calls call)) = Called p c b call
 
 called_in_range : (p : Parameters) (c : ℕ) (b : Bytes) (action : Action) → Octets b → length b ≡ kind_length (byte_at b 0) → is_call (byte_at b 0) ≡ true
     → FrameInRange p c b (called p c (call_of p action b))

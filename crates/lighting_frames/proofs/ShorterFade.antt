@@ -1,6 +1,7 @@
 -- A SHORTER LONGEST FADE (§7), of frames: by two sets that differ in it alone a string of bytes is read
 -- alike, unless it carries a fade time between the two that the longer one takes: by the shorter one that
 -- is 12.
+use Rattle.std.specs.Prelude.{Result, Ok, Err}
 use mathlib.Core.Path.{◌≡◌, refl}
 use mathlib.Core.Bool.{Bool, false}
 use Prim.Native.Nat.{ℕ, suc, ◌≤◌}
@@ -15,17 +16,19 @@ use Rattle.lighting_frames.specs.Paper.Kinds.{kind_row}
 use Rattle.lighting_frames.specs.Paper.Frames.{Bytes, request_of, call_of, called, clock_of, parse_by, parse}
 use Rattle.lighting_frames.specs.Paper.FadeTimes.{fade_time_in, carries}
 use Rattle.lighting_outputs.specs.declared.Property.TheVariants.{FadeTime}
-use Rattle.lighting_outputs.specs.declared.Request.{Request}
+use Rattle.lighting_outputs.specs.Paper.Answers.{Request}
 use Rattle.lighting_frames.specs.declared.Action.{Action}
 use Rattle.lighting_frames.specs.declared.Call.{Call}
 use Rattle.lighting_frames.specs.declared.Frame.{Frame}
-use Rattle.lighting_frames.specs.declared.Frame.TheVariants.{Bad, Clock, Calls}
+use Rattle.lighting_frames.specs.declared.Frame.TheVariants.{Clock, Calls}
 use Rattle.lighting_frames.specs.declared.Kind.{Kind}
 use Rattle.lighting_frames.specs.declared.Kind.TheVariants.{NoKind, ClockKind, CallKind}
 use Rattle.lighting_levels.proofs.Split.{by_bool}
 use Rattle.lighting_outputs.proofs.ShorterFade.{with_fade, Shortened, alike, refused, change, command}
 use Rattle.lighting_frames.proofs.KindTable.{kind_byte, clock_byte}
 use Rattle.lighting_frames.proofs.SetRead.{SetRead, none, refuses, writes, commands, set_read}
+use Rattle.lighting_outputs.specs.declared.Refusal.{Refusal}
+use Rattle.lighting_frames.specs.Paper.Tags.{reads}
 
 -- a clock carries none
 clock_carries : (least most : ℕ) (b : Bytes) → (kind_row (byte_at b 0)).kind ≡ ClockKind → carries least most b ≡ false
@@ -37,11 +40,11 @@ abbrev pub asking : Call → Request → Call
 asking call request =
     record { station = call.station; number = call.number; time = call.time; output = call.output; request = request }
 
-pub data ShortenedFrame (between : Bool) : Frame → Frame → Type 0 where
-  bad : {refusal : ℕ} → ShortenedFrame between (Bad refusal) (Bad refusal)
-  clocked : {t : ℕ} → between ≡ false → ShortenedFrame between (Clock t) (Clock t)
+pub data ShortenedFrame (between : Bool) : Result Frame Refusal → Result Frame Refusal → Type 0 where
+  bad : {refusal : ℕ} → ShortenedFrame between (Err refusal) (Err refusal)
+  clocked : {t : ℕ} → between ≡ false → ShortenedFrame between (Ok (Clock t)) (Ok (Clock t))
   asks : (call : Call) (request : Request) → Shortened between call.request request
-      → ShortenedFrame between (Calls call) (Calls (asking call request))
+      → ShortenedFrame between (Ok (Calls call)) (Ok (Calls (asking call request)))
 
 module _ (p : Parameters) (fade : ℕ) (less : fade ≤ p.fade) where
   abbrev shorter : Parameters

@@ -6,23 +6,23 @@ use lighting_outputs::{Answer, Operation, Request};
 
 // ---- a command in BACnet's own tagging (§1 of the change requests)
 
-// A field behind its context tag, there or not: of how many octets its content is, and the number that they
-// spell, a REAL's pattern for a REAL.
+// The content of a field behind its context tag: of how many octets it is, and the number that they spell, a
+// REAL's pattern for a REAL.
 #[derive(Clone, Copy)]
-pub enum TagField {
-    Holds { count: u8, value: u32 },
-    Missing,
+pub struct TagContent {
+    pub count: u8,
+    pub value: u32,
 }
 
-// The fields of a tagged command, in the order of their tags, 0 to 5.
+// The fields of a tagged command, in the order of their tags, 0 to 5, each there or not.
 #[derive(Clone, Copy)]
 pub struct TagFields {
-    pub operation: TagField,
-    pub level: TagField,
-    pub rate: TagField,
-    pub step: TagField,
-    pub fade: TagField,
-    pub duration: TagField,
+    pub operation: Option<TagContent>,
+    pub level: Option<TagContent>,
+    pub rate: Option<TagContent>,
+    pub step: Option<TagContent>,
+    pub fade: Option<TagContent>,
+    pub duration: Option<TagContent>,
 }
 
 // The most bytes of a tagged command. The definitions have the same number, `most_tagged`.
@@ -36,14 +36,11 @@ pub struct TaggedBody {
     pub bytes: [u8; MOST_TAGGED],
 }
 
-// What a body in tags is read as: an operation and its duration, there or not, or refusal 14 or 15.
+// What a body in tags is read as: an operation and its duration, there or not.
 #[derive(Clone, Copy)]
-pub enum TaggedReading {
-    Unreadable(u8),
-    Reads {
-        operation: Operation,
-        duration: Option<u32>,
-    },
+pub struct TaggedCommand {
+    pub operation: Operation,
+    pub duration: Option<u32>,
 }
 
 // The bytes of the longest frame: no kind has more. The definitions have the same number, `longest_frame`.
@@ -107,18 +104,16 @@ pub struct Call {
     pub request: Request,
 }
 
-// A string of bytes as it is read: a refusal from 2 to 5, a clock, or a call.
+// A string of bytes as it is read, if no refusal from 2 to 5 is met: a clock, or a call.
 #[derive(Clone, Copy)]
 pub enum Frame {
-    Bad(u8),
     Clock(u64),
     Calls(Call),
 }
 
-// What is to be done with a frame.
+// What is to be done with a frame that meets no refusal from 2 to 8.
 #[derive(Clone, Copy)]
 pub enum Verdict {
-    TurnedDown(u8),
     Copied(Answer),
     Clocked(u64),
     Arrives(Call),

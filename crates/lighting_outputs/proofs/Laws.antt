@@ -4,13 +4,13 @@ use Prim.Native.Nat.{ℕ}
 use Rattle.lighting_outputs.specs.Engine.Advance.{sooner}
 use Rattle.lighting_outputs.specs.Engine.Light.{count_before, count_since, lit_by_pace, lit_in_movement}
 use Rattle.lighting_outputs.specs.Paper.Acting.{acted, served, Served}
-use Rattle.lighting_outputs.specs.Paper.Answers.{answer_bytes, level_answered}
+use Rattle.lighting_outputs.specs.Paper.Answers.{answer_bytes, refusal_number, level_answered, Request}
 use Rattle.lighting_outputs.specs.Paper.Commands.{without_warning, activity_without_warning, stopped, effect, timed}
 use Rattle.lighting_outputs.specs.Paper.Operations.{operation_number, fields_of, duration_field}
 use Rattle.lighting_outputs.specs.Paper.Parameters.{Parameters}
 use Rattle.lighting_outputs.specs.Paper.Passing.{timer_due, phase_end, activity_due, is_due, emptied_by, end_movement_of, end_movement_by, next_phase, next_activity, phase_slots, next_slots}
 use Rattle.lighting_outputs.specs.Paper.Properties.{number_of, change_to, change_by, end_movement, level_or_absent, real_field_answer, time_field_answer, last_duration, read_property}
-use Rattle.lighting_outputs.specs.Paper.Requests.{level_field_refusal, amount_field_refusal, time_field_refusal, command_with_duration, write_level}
+use Rattle.lighting_outputs.specs.Paper.Requests.{level_field_refusal, amount_field_refusal, time_field_refusal, first_refusal, command_with_duration, command_request_by, write_level}
 use Rattle.lighting_outputs.specs.Paper.Rows.{row_of, meets}
 use Rattle.lighting_outputs.specs.Paper.Rules.{activity_by, timer_sound}
 use Rattle.lighting_outputs.specs.Paper.Slots.{put, Slots}
@@ -31,7 +31,7 @@ use Rattle.lighting_outputs.specs.declared.Pace.{Pace}
 use Rattle.lighting_outputs.specs.declared.Phase.{Phase}
 use Rattle.lighting_outputs.specs.declared.Property.{Property}
 use Rattle.lighting_outputs.specs.declared.Range.{Range}
-use Rattle.lighting_outputs.specs.declared.Request.{Request}
+use Rattle.lighting_outputs.specs.declared.Refusal.{Refusal}
 use Rattle.lighting_outputs.specs.declared.Settings.{Settings}
 use Rattle.lighting_outputs.specs.declared.Timer.{Timer}
 use Rattle.lighting_outputs.specs.declared.Warning.{Warning}
@@ -63,6 +63,9 @@ served_on x0 x1 x2 x3 x4 k r e p = rw e p
 pub answer_bytes_on : (x0 : Answer) (k : Answer) (r : List ℕ) → x0 ≡ k → r ≡ answer_bytes k → r ≡ answer_bytes x0
 answer_bytes_on x0 k r e p = rw e p
 
+pub refusal_number_on : (x0 : Refusal) (k : Refusal) (r : ℕ) → x0 ≡ k → r ≡ refusal_number k → r ≡ refusal_number x0
+refusal_number_on x0 k r e p = rw e p
+
 pub level_answered_on : (x0 : Option ℕ) (k : Option ℕ) (r : Answer) → x0 ≡ k → r ≡ level_answered k → r ≡ level_answered x0
 level_answered_on x0 k r e p = rw e p
 
@@ -78,7 +81,7 @@ stopped_on x0 x1 x2 x3 k r e p = rw e p
 pub effect_on : (x0 : ℕ) (x1 : Settings) (x2 : ℕ) (x3 : Slots) (x4 : Activity) (x5 : Operation) (k : Operation) (r : Effect) → x5 ≡ k → r ≡ effect x0 x1 x2 x3 x4 k → r ≡ effect x0 x1 x2 x3 x4 x5
 effect_on x0 x1 x2 x3 x4 x5 k r e p = rw e p
 
-pub timed_on : (x0 : ℕ) (x1 : ℕ) (x2 : Timer) (x3 : Duration) (k : Duration) (r : Timer) → x3 ≡ k → r ≡ timed x0 x1 x2 k → r ≡ timed x0 x1 x2 x3
+pub timed_on : (x0 : ℕ) (x1 : ℕ) (x2 : Option Timer) (x3 : Duration) (k : Duration) (r : Option Timer) → x3 ≡ k → r ≡ timed x0 x1 x2 k → r ≡ timed x0 x1 x2 x3
 timed_on x0 x1 x2 x3 k r e p = rw e p
 
 pub operation_number_on : (x0 : Operation) (k : Operation) (r : ℕ) → x0 ≡ k → r ≡ operation_number k → r ≡ operation_number x0
@@ -90,7 +93,7 @@ fields_of_on x0 k r e p = rw e p
 pub duration_field_on : (x0 : Duration) (k : Duration) (r : Option ℕ) → x0 ≡ k → r ≡ duration_field k → r ≡ duration_field x0
 duration_field_on x0 k r e p = rw e p
 
-pub timer_due_on : (x0 : Timer) (k : Timer) (r : Option ℕ) → x0 ≡ k → r ≡ timer_due k → r ≡ timer_due x0
+pub timer_due_on : (x0 : Option Timer) (k : Option Timer) (r : Option ℕ) → x0 ≡ k → r ≡ timer_due k → r ≡ timer_due x0
 timer_due_on x0 k r e p = rw e p
 
 pub phase_end_on : (x0 : Warning) (x1 : Phase) (k : Phase) (r : ℕ) → x1 ≡ k → r ≡ phase_end x0 k → r ≡ phase_end x0 x1
@@ -102,13 +105,13 @@ activity_due_on x0 k r e p = rw e p
 pub is_due_on : (x0 : ℕ) (x1 : Option ℕ) (k : Option ℕ) (r : Bool) → x1 ≡ k → r ≡ is_due x0 k → r ≡ is_due x0 x1
 is_due_on x0 x1 k r e p = rw e p
 
-pub emptied_by_on : (x0 : Timer) (x1 : Slots) (k : Timer) (r : Slots) → x0 ≡ k → r ≡ emptied_by k x1 → r ≡ emptied_by x0 x1
+pub emptied_by_on : (x0 : Option Timer) (x1 : Slots) (k : Option Timer) (r : Slots) → x0 ≡ k → r ≡ emptied_by k x1 → r ≡ emptied_by x0 x1
 emptied_by_on x0 x1 k r e p = rw e p
 
 pub end_movement_of_on : (x0 : ℕ) (x1 : Activity) (k : Activity) (r : Activity) → x1 ≡ k → r ≡ end_movement_of x0 k → r ≡ end_movement_of x0 x1
 end_movement_of_on x0 x1 k r e p = rw e p
 
-pub end_movement_by_on : (x0 : Timer) (x1 : Activity) (k : Timer) (r : Activity) → x0 ≡ k → r ≡ end_movement_by k x1 → r ≡ end_movement_by x0 x1
+pub end_movement_by_on : (x0 : Option Timer) (x1 : Activity) (k : Option Timer) (r : Activity) → x0 ≡ k → r ≡ end_movement_by k x1 → r ≡ end_movement_by x0 x1
 end_movement_by_on x0 x1 k r e p = rw e p
 
 pub next_phase_on : (x0 : Warning) (x1 : Phase) (k : Phase) (r : Activity) → x1 ≡ k → r ≡ next_phase x0 k → r ≡ next_phase x0 x1
@@ -150,17 +153,23 @@ last_duration_on x0 k r e p = rw e p
 pub read_property_on : (x0 : Bool) (x1 : ℕ) (x2 : Output) (x3 : Property) (k : Property) (r : Answer) → x3 ≡ k → r ≡ read_property x0 x1 x2 k → r ≡ read_property x0 x1 x2 x3
 read_property_on x0 x1 x2 x3 k r e p = rw e p
 
-pub level_field_refusal_on : (x0 : Option Float) (k : Option Float) (r : ℕ) → x0 ≡ k → r ≡ level_field_refusal k → r ≡ level_field_refusal x0
+pub level_field_refusal_on : (x0 : Option Float) (k : Option Float) (r : Option Refusal) → x0 ≡ k → r ≡ level_field_refusal k → r ≡ level_field_refusal x0
 level_field_refusal_on x0 k r e p = rw e p
 
-pub amount_field_refusal_on : (x0 : Option Float) (k : Option Float) (r : ℕ) → x0 ≡ k → r ≡ amount_field_refusal k → r ≡ amount_field_refusal x0
+pub amount_field_refusal_on : (x0 : Option Float) (k : Option Float) (r : Option Refusal) → x0 ≡ k → r ≡ amount_field_refusal k → r ≡ amount_field_refusal x0
 amount_field_refusal_on x0 k r e p = rw e p
 
-pub time_field_refusal_on : (x0 : Parameters) (x1 : Option ℕ) (k : Option ℕ) (r : ℕ) → x1 ≡ k → r ≡ time_field_refusal x0 k → r ≡ time_field_refusal x0 x1
+pub time_field_refusal_on : (x0 : Parameters) (x1 : Option ℕ) (k : Option ℕ) (r : Option Refusal) → x1 ≡ k → r ≡ time_field_refusal x0 k → r ≡ time_field_refusal x0 x1
 time_field_refusal_on x0 x1 k r e p = rw e p
+
+pub first_refusal_on : (x0 : Option Refusal) (x1 : Option Refusal) (k : Option Refusal) (r : Option Refusal) → x0 ≡ k → r ≡ first_refusal k x1 → r ≡ first_refusal x0 x1
+first_refusal_on x0 x1 k r e p = rw e p
 
 pub command_with_duration_on : (x0 : Parameters) (x1 : Operation) (x2 : Option ℕ) (k : Option ℕ) (r : Request) → x2 ≡ k → r ≡ command_with_duration x0 x1 k → r ≡ command_with_duration x0 x1 x2
 command_with_duration_on x0 x1 x2 k r e p = rw e p
+
+pub command_request_by_on : (x0 : Parameters) (x1 : Option Refusal) (x2 : Operation) (x3 : Option ℕ) (k : Option Refusal) (r : Request) → x1 ≡ k → r ≡ command_request_by x0 k x2 x3 → r ≡ command_request_by x0 x1 x2 x3
+command_request_by_on x0 x1 x2 x3 k r e p = rw e p
 
 pub write_level_on : (x0 : ℕ) (x1 : Option ℕ) (k : Option ℕ) (r : Request) → x1 ≡ k → r ≡ write_level x0 k → r ≡ write_level x0 x1
 write_level_on x0 x1 k r e p = rw e p
@@ -174,7 +183,7 @@ meets_on x0 x1 k r e p = rw e p
 pub activity_by_on : (x0 : Parameters) (x1 : ℕ) (x2 : Bool) (x3 : ℕ) (x4 : ℕ) (x5 : ℕ) (x6 : Activity) (k : Activity) (r : Bool) → x6 ≡ k → r ≡ activity_by x0 x1 x2 x3 x4 x5 k → r ≡ activity_by x0 x1 x2 x3 x4 x5 x6
 activity_by_on x0 x1 x2 x3 x4 x5 x6 k r e p = rw e p
 
-pub timer_sound_on : (x0 : ℕ) (x1 : Timer) (k : Timer) (r : Bool) → x1 ≡ k → r ≡ timer_sound x0 k → r ≡ timer_sound x0 x1
+pub timer_sound_on : (x0 : ℕ) (x1 : Option Timer) (k : Option Timer) (r : Bool) → x1 ≡ k → r ≡ timer_sound x0 k → r ≡ timer_sound x0 x1
 timer_sound_on x0 x1 k r e p = rw e p
 
 pub put_on : (x0 : Slots) (x1 : ℕ) (x2 : Option ℕ) (k : Option ℕ) (r : Slots) → x2 ≡ k → r ≡ put x0 x1 k → r ≡ put x0 x1 x2

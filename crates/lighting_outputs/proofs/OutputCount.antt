@@ -18,6 +18,7 @@ use Rattle.lighting_outputs.specs.declared.Operation.{Operation}
 use Rattle.lighting_outputs.specs.declared.Output.{Output}
 use Rattle.lighting_outputs.specs.declared.Property.{Property}
 use Rattle.lighting_outputs.proofs.Rules.Rows.{row_reads}
+use Rattle.lighting_outputs.specs.declared.Refusal.{Refusal}
 
 -- the set with another number of outputs
 abbrev pub with_outputs : Parameters → ℕ → Parameters
@@ -45,9 +46,15 @@ module _ (p : Parameters) (n : ℕ) where
   lasting operation (Some d) = refl
   lasting operation None = refl
 
+  by_refusal : (refusal : Option Refusal) (operation : Operation) (duration : Option ℕ)
+      → command_request_by other refusal operation duration ≡ command_request_by p refusal operation duration
+  unfolding command_request_by
+  by_refusal (Some refusal) operation duration = refl
+  by_refusal None operation duration = lasting operation duration
+
   pub command : (operation : Operation) (duration : Option ℕ) → command_of other operation duration ≡ command_of p operation duration
-  unfolding command_of command_request_by fields_refusal
-  command operation duration = rw (time (fields_of operation).fade, lasting operation duration)
+  unfolding command_of fields_refusal
+  command operation duration = rw (time (fields_of operation).fade) (by_refusal _ operation duration)
 
   -- THE RECORD RULES
   activity : (t : ℕ) (l : Bool) (first high v : ℕ) (a : Activity) → activity_by other t l first high v a ≡ activity_by p t l first high v a

@@ -44,16 +44,16 @@ kept f b o h t =
     record { read = refl; written = bits_kept b h number; in_range_lem = t }
 
 -- a level, and a rate or step, of a command
-within_range : (l : Option ℕ) → level_refusal l ≡ 0 → in_range l ≡ true
+within_range : (l : Option ℕ) → level_refusal l ≡ None → in_range l ≡ true
 unfolding in_range
 within_range (Some v) h = refl
-within_range None h = absurd (omega arith)
+within_range None h = absurd (let z : ◌≡◌ {A = ℕ} 0 1 = cc in omega arith)
 
-pub level_field_kept : (b : ℕ) → b < 2 ^ 32 → level_field_refusal (Some (real b)) ≡ 0 → Kept level_of b (real b)
+pub level_field_kept : (b : ℕ) → b < 2 ^ 32 → level_field_refusal (Some (real b)) ≡ None → Kept level_of b (real b)
 unfolding level_field_refusal
 level_field_kept b h r = kept level_of b (unfold level_of in refl) h (within_range (level_of (real b)) r)
 
-pub amount_field_kept : (b : ℕ) → b < 2 ^ 32 → amount_field_refusal (Some (real b)) ≡ 0 → Kept amount_of b (real b)
+pub amount_field_kept : (b : ℕ) → b < 2 ^ 32 → amount_field_refusal (Some (real b)) ≡ None → Kept amount_of b (real b)
 unfolding amount_field_refusal
 amount_field_kept b h r = kept amount_of b (unfold amount_of in refl) h (within_range (amount_of (real b)) r)
 

@@ -1,8 +1,8 @@
 -- A SHORTER LONGEST FADE (§7): two sets that differ in it alone. A record that keeps the rules by the shorter
 -- one keeps them by the longer one. A request is read alike by both, unless it takes a fade time between the
 -- two: by the shorter one that is 12.
-use Rattle.std.specs.Prelude.{Option, Some, None}
-use mathlib.Core.Path.{◌≡◌, refl}
+use Rattle.std.specs.Prelude.{Option, Some, None, Ok, Err}
+use mathlib.Core.Path.{◌≡◌, refl, ap, ◌∙◌}
 use mathlib.Core.Bool.{Bool, true, false}
 use Prim.Native.Nat.{ℕ, suc, ◌≤◌}
 use native.Mathlib.Omega.{arith}
@@ -26,11 +26,12 @@ use Rattle.lighting_outputs.specs.declared.OutputRequest.{OutputRequest}
 use Rattle.lighting_outputs.specs.declared.OutputRequest.TheVariants.{Change, Commands}
 use Rattle.lighting_outputs.specs.declared.Property.{Property}
 use Rattle.lighting_outputs.specs.declared.Property.TheVariants.{FadeTime}
-use Rattle.lighting_outputs.specs.declared.Request.{Request}
-use Rattle.lighting_outputs.specs.declared.Request.TheVariants.{Refuse, ToOutput}
+use Rattle.lighting_outputs.specs.Paper.Answers.{Request}
 use Rattle.lighting_outputs.specs.declared.Settings.{Settings}
 use Rattle.lighting_levels.proofs.Split.{by_bool, by_le, also_both, also_yes, leb_yes, leb_no, le_of}
 use Rattle.lighting_outputs.proofs.Rules.Rows.{same_is, row_reads}
+use Rattle.lighting_outputs.specs.declared.Refusal.TheVariants.{WholeOutOfRange}
+use Rattle.lighting_outputs.specs.declared.Refusal.{Refusal}
 
 -- the set with another longest fade
 abbrev pub with_fade : Parameters → ℕ → Parameters
@@ -44,8 +45,8 @@ pub data TakesFade : OutputRequest → Type 0 where
 
 pub data Shortened (between : Bool) : Request → Request → Type 0 where
   alike : {request : Request} → between ≡ false → Shortened between request request
-  refused : {refusal : ℕ} → Shortened between (Refuse refusal) (Refuse refusal)
-  cut : {request : OutputRequest} → between ≡ true → TakesFade request → Shortened between (ToOutput request) (Refuse 12)
+  refused : {refusal : Refusal} → Shortened between (Err refusal) (Err refusal)
+  cut : {request : OutputRequest} → between ≡ true → TakesFade request → Shortened between (Ok request) (Err WholeOutOfRange)
 
 -- a conjunction whose parts imply those of another
 also_then : {a a' b b' : Bool} → (a ≡ true → a' ≡ true) → (b ≡ true → b' ≡ true) → (a also b) ≡ true → (a' also b') ≡ true
@@ -131,18 +132,22 @@ module _ (p : Parameters) (fade : ℕ) (less : fade ≤ p.fade) where
       (λ h. rw (row_reads shorter p property, h) (alike refl))
 
   -- a command: the refusal of its REALs, which read no set, then that of its fade time
-  fields : OperationFields → ℕ
+  fields : OperationFields → Option Refusal
   fields f =
       let amounts = first_refusal (amount_field_refusal f.rate) (amount_field_refusal f.step) in
       first_refusal (level_field_refusal f.level) amounts
 
+  in_turn : (a b c : Option Refusal) → first_refusal a (first_refusal b c) ≡ first_refusal (first_refusal a b) c
+  unfolding first_refusal
+  in_turn (Some a) b c = refl
+  in_turn None b c = refl
+
   fields_then : (q : Parameters) (f : OperationFields)
       → fields_refusal q f ≡ first_refusal (fields f) (time_field_refusal q f.fade)
-  unfolding fields fields_refusal first_refusal when◌then◌else◌
+  unfolding fields fields_refusal
   fields_then q f =
-      by_bool (eqb (level_field_refusal f.level) 0)
-      (λ e. rw e (by_bool (eqb (amount_field_refusal f.rate) 0) (λ e'. rw e') (λ e'. rw (e', e'))))
-      (λ e. rw (e, e))
+      ap (first_refusal (level_field_refusal f.level)) (in_turn (amount_field_refusal f.rate) (amount_field_refusal f.step) (time_field_refusal q f.fade))
+      ∙ in_turn (level_field_refusal f.level) _ (time_field_refusal q f.fade)
 
   -- the duration reads no fade: by both sets it is taken, or 12
   lasting : (operation : Operation) (field : Option ℕ)
@@ -152,7 +157,7 @@ module _ (p : Parameters) (fade : ℕ) (less : fade ≤ p.fade) where
   lasting operation None = refl
 
   taken : (between : Bool) → between ≡ true → (operation : Operation) (field : Option ℕ)
-      → Shortened between (command_with_duration p operation field) (Refuse 12)
+      → Shortened between (command_with_duration p operation field) (Err WholeOutOfRange)
   unfolding command_with_duration command_lasting when◌then◌else◌
   taken between h operation (Some d) =
       by_bool (eqb d 0)
@@ -160,20 +165,25 @@ module _ (p : Parameters) (fade : ℕ) (less : fade ≤ p.fade) where
       (λ e. rw e (by_bool (within 100 p.duration d) (λ e'. rw e' (cut h commanded)) (λ e'. rw e' refused)))
   taken between h operation None = cut h commanded
 
-  by_fade : (operation : Operation) (duration field : Option ℕ) (reals : ℕ)
+  same_by : {between : Bool} (operation : Operation) (duration : Option ℕ) (refusal : Option Refusal) → between ≡ false
+      → Shortened between (command_request_by p refusal operation duration) (command_request_by shorter refusal operation duration)
+  unfolding command_request_by
+  same_by operation duration (Some refusal) none = refused
+  same_by operation duration None none = rw (lasting operation duration) (alike none)
+
+  by_fade : (operation : Operation) (duration field : Option ℕ) (reals : Option Refusal)
       → Shortened (time_within (suc fade) p.fade field)
       (command_request_by p (first_refusal reals (time_field_refusal p field)) operation duration)
       (command_request_by shorter (first_refusal reals (time_field_refusal shorter field)) operation duration)
   unfolding time_within command_request_by first_refusal time_field_refusal meets when◌then◌else◌
-  by_fade operation duration None reals = rw (lasting operation duration) (alike refl)
-  by_fade operation duration (Some x) reals =
+  by_fade operation duration None None = rw (lasting operation duration) (alike refl)
+  by_fade operation duration None (Some refusal) = refused
+  by_fade operation duration (Some x) None =
       by_time x
-      (λ none same_test. rw (same_test, lasting operation duration) (alike none))
-      (λ high highest. rw (high, highest) (by_bool (eqb reals 0) (λ good. rw good refused) (λ bad. rw (bad, bad) refused)))
-      (λ carried high low. rw (high, low)
-      (by_bool (eqb reals 0)
-      (λ good. rw good (taken (within (suc fade) p.fade x) carried operation duration))
-      (λ bad. rw (bad, bad) refused)))
+      (λ none same_test. rw same_test (same_by operation duration _ none))
+      (λ high highest. rw (high, highest) refused)
+      (λ carried high low. rw (high, low) (taken (within (suc fade) p.fade x) carried operation duration))
+  by_fade operation duration (Some x) (Some refusal) = refused
 
   pub command : (operation : Operation) (duration : Option ℕ)
       → Shortened (time_within (suc fade) p.fade (fields_of operation).fade)

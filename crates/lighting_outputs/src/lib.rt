@@ -106,11 +106,11 @@ pub enum Activity {
     Warned(Warning),
 }
 
-// The duration that is running: its slot empties at `due`.
+// A duration that is running: its slot empties at `due`.
 #[derive(Clone, Copy)]
-pub enum Timer {
-    Off,
-    Running { slot: u8, due: u64 },
+pub struct Timer {
+    pub slot: u8,
+    pub due: u64,
 }
 
 // A command's duration field: so many milliseconds, 0, or FFFFFFFF.
@@ -143,7 +143,8 @@ pub struct Command {
     pub duration: Duration,
 }
 
-// The fields of an operation, from left to right: level, rate, step and fade time.
+// The fields of an operation, from left to right: level, rate, step and fade time. Each is there or not: a
+// REAL as it was written, or a time.
 #[derive(Clone, Copy)]
 pub struct OperationFields {
     pub level: Option<f32>,
@@ -159,7 +160,7 @@ pub struct Output {
     pub settings: Settings,
     pub slots: Slots,
     pub activity: Activity,
-    pub timer: Timer,
+    pub timer: Option<Timer>,
     // Elapsed_Active_Time in milliseconds, the paper's burning time.
     pub burning: u64,
     pub last: Command,
@@ -174,6 +175,46 @@ pub enum Answer {
     Value(u32),
     Absent,
     Refused(u8),
+}
+
+// Why a start or a frame is refused. `refusal_number` of specs/Paper/Answers.antt has the papers' number of
+// each, which is what an answer carries.
+#[derive(Clone, Copy)]
+pub enum Refusal {
+    // 1: the lent records are not as many as the set has, or break a rule
+    BrokenRecords,
+    // 2: no byte, or an unknown kind
+    UnknownKind,
+    // 3: another length than the kind's
+    WrongLength,
+    // 4: a station that the set has not, or number 0
+    UnknownStation,
+    // 5: an output that is not in the table
+    UnknownOutput,
+    // 6: the station's last number with other bytes
+    OtherBytes,
+    // 7: a number below the station's last
+    PastNumber,
+    // 8: a time before panel time
+    PastTime,
+    // 9: a property that is unknown, or not writable
+    NotWritable,
+    // 10: priority 0, 6 or over 16
+    BadPriority,
+    // 11: a REAL out of range
+    RealOutOfRange,
+    // 12: a whole number out of range
+    WholeOutOfRange,
+    // 13: Min over Max
+    MinOverMax,
+    // 14: a length, tag, tag order, tag length or padding that is wrong, or an operation above 10
+    BadTags,
+    // 15: a field in tags that is missing, foreign, or not in the fewest octets
+    BadFields,
+    // 16: the relay's inactive value not below its active one
+    RelayNotInOrder,
+    // 17: a start with a parameter out of range
+    BadParameters,
 }
 
 // The ends of the ranges of a set of parameters (§6): stations and outputs from 1, the two times from
@@ -263,14 +304,10 @@ pub enum OutputRequest {
     Commands(Command),
 }
 
-// What a frame asks: something of its own output, and of no other; or nothing, by the refusal that its
-// fields meet, 9 to 12, 14 or 15 (a read of an unknown property meets its 9 when it is answered). A request
-// to the whole table is a case of its own here.
-#[derive(Clone, Copy)]
-pub enum Request {
-    Refuse(u8),
-    ToOutput(OutputRequest),
-}
+// What a frame asks: something of its own output, and of no other; or nothing, by the refusal that its fields
+// meet, 9 to 12, 14 or 15 (a read of an unknown property meets its 9 when it is answered). A request to the
+// whole table is a case of its own here.
+pub type Request = Result<OutputRequest, Refusal>;
 
 // ---- results of acting
 

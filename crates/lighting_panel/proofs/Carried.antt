@@ -1,6 +1,7 @@
 -- `start_step`, `frame_step` and `execute` on each of their ways, as the code over the lent tables takes
 -- them; and what a verdict is sure of.
 --
+use Rattle.std.specs.Prelude.{Result, Ok, Err}
 use mathlib.Core.Path.{◌≡◌, refl, ap₂}
 use mathlib.Core.Bool.{Bool, true, false}
 use mathlib.Core.List.{List, [], ◌∷◌, map}
@@ -25,13 +26,14 @@ use Rattle.lighting_outputs.specs.declared.Output.{Output}
 use Rattle.lighting_outputs.specs.declared.Answer.{Answer}
 use Rattle.lighting_outputs.specs.declared.Answer.TheVariants.{Done, Refused}
 use Rattle.lighting_frames.specs.declared.Frame.{Frame}
-use Rattle.lighting_frames.specs.declared.Frame.TheVariants.{Bad, Clock, Calls}
+use Rattle.lighting_frames.specs.declared.Frame.TheVariants.{Clock, Calls}
 use Rattle.lighting_levels.proofs.Split.{by_bool, by_lt, also_both, eq_of}
 use Rattle.lighting_outputs.specs.Paper.Startable.{startable}
 use Rattle.lighting_outputs.proofs.Rules.Startable.{Startable, startable_of}
 use Rattle.lighting_frames.proofs.Reading.{FrameInRange, frame_in_range}
 use Rattle.lighting_frames.proofs.KindTable.{length_most}
 use Rattle.lighting_outputs.proofs.Rules.Tied.{tested_stays}
+use Rattle.lighting_outputs.specs.declared.Refusal.{Refusal}
 
 -- THE START
 module _ (p : Parameters) (marks : ℕ) (e : Panel) where
@@ -92,23 +94,23 @@ octets [] h = tt
 octets (x ∷ b) h = (h 0, octets b (λ i. h (suc i)))
 
 -- the station that a frame names has its record
-station_within : (p : Parameters) → Startable p → (c : ℕ) (b : Bytes) (f : Frame) → FrameInRange p c b f → station_of f < p.stations
+station_within : (p : Parameters) → Startable p → (c : ℕ) (b : Bytes) (f : Result Frame Refusal) → FrameInRange p c b f → station_of f < p.stations
 unfolding station_of
-station_within p allowed c b (Bad r) g = omega (arith, allowed.stations)
-station_within p allowed c b (Clock t) g = omega (arith, allowed.stations)
-station_within p allowed c b (Calls call) g = g.station
+station_within p allowed c b (Err r) g = omega (arith, allowed.stations)
+station_within p allowed c b (Ok (Clock t)) g = omega (arith, allowed.stations)
+station_within p allowed c b (Ok (Calls call)) g = g.station
 
 pub station_found : (p : Parameters) → startable p ≡ true → (c : ℕ) (b : Bytes) → Octets b → station_of (parse p c b) < p.stations
 station_found p allowed c b h = station_within p (startable_of p allowed) c b (parse p c b) (frame_in_range p c b h)
 
-judged_by_record_sure : (p : Parameters) (now c k : ℕ) (b : Bytes) (a : Station) (same : Bool) (f : Frame)
+judged_by_record_sure : (p : Parameters) (now c k : ℕ) (b : Bytes) (a : Station) (same : Bool) (f : Result Frame Refusal)
     → Startable p
     → k ≡ p.stations → FrameInRange p c b f → VerdictPrecondition now c k b (judged_by_record now a same f)
 unfolding judged_by_record judged_by_number retransmission_or_conflict when◌then◌else◌
-judged_by_record_sure p now c k b a same (Bad r) allowed e g = tt
-judged_by_record_sure p now c k b a same (Clock t) allowed e g =
+judged_by_record_sure p now c k b a same (Err r) allowed e g = tt
+judged_by_record_sure p now c k b a same (Ok (Clock t)) allowed e g =
     by_lt t now (λ l z. rw z tt) (λ l z. rw z (record { due = l; time = g }))
-judged_by_record_sure p now c k b a same (Calls call) allowed e g =
+judged_by_record_sure p now c k b a same (Ok (Calls call)) allowed e g =
     by_bool
     (eqb call.number a.number)
     (λ z. rw z (by_bool same (λ q. rw q tt) (λ q. rw q tt)))

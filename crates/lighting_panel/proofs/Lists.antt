@@ -1,6 +1,7 @@
 -- THE LIST THEOREM: over every list of frames the engine finds and answers what the plain panel finds and
 -- answers. It stands on laws of the table (proofs/Table.antt) and of reading (proofs/Reading.antt), and never
 -- looks at a kind of request.
+use Rattle.std.specs.Prelude.{Result, Ok, Err}
 use mathlib.Core.Path.{◌≡◌, refl, sym, ap, ◌∙◌}
 use mathlib.Core.Logic.{◌≢◌}
 use mathlib.Core.Bool.{true}
@@ -31,9 +32,9 @@ use Rattle.lighting_outputs.specs.declared.Output.{Output}
 use Rattle.lighting_outputs.specs.declared.Answer.{Answer}
 use Rattle.lighting_frames.specs.declared.Call.{Call}
 use Rattle.lighting_frames.specs.declared.Frame.{Frame}
-use Rattle.lighting_frames.specs.declared.Frame.TheVariants.{Bad, Clock, Calls}
+use Rattle.lighting_frames.specs.declared.Frame.TheVariants.{Clock, Calls}
 use Rattle.lighting_frames.specs.declared.Verdict.{Verdict}
-use Rattle.lighting_frames.specs.declared.Verdict.TheVariants.{TurnedDown, Copied, Clocked, Arrives}
+use Rattle.lighting_frames.specs.declared.Verdict.TheVariants.{Copied, Clocked, Arrives}
 use Rattle.lighting_levels.proofs.Split.{also_both, also_yes, by_eq, by_lt, by_le, by_bool, leb_yes, leb_no, eqb_hit}
 use Rattle.lighting_outputs.specs.Paper.Startable.{startable}
 use Rattle.lighting_outputs.proofs.Rules.Startable.{startable_of}
@@ -43,6 +44,8 @@ use Rattle.lighting_outputs.proofs.AnswersApart.{refusal_of}
 use Rattle.lighting_outputs.specs.declared.Answer.TheVariants.{Done}
 use Rattle.lighting_outputs.proofs.Acts.Answered.{NotOne, not_one}
 use Rattle.lighting_panel.proofs.Table.{served_not_one, AllSound, all_tested, all_fresh, run_plain_advance, all_advance, served_sound, served_length}
+use Rattle.lighting_outputs.specs.declared.Refusal.{Refusal}
+use Rattle.lighting_outputs.specs.declared.Refusal.TheVariants.{PastNumber, PastTime}
 
 -- THE LINK between the station records and the list so far. The engine's panel is rebuilt from the plain one
 abbrev pub joined : Parameters → ℕ → List Station → PlainState → Panel
@@ -117,12 +120,12 @@ alike n a t now same low late go =
     (λ q e'. rw (e, e', leb_no {a = suc a} {b = n} (omega arith)))
     (λ q e'. rw (e, e', leb_yes {a = suc a} {b = n} (omega arith)) (not_before t now late go)))
 
-judged_by_record_judged : (p : Parameters) (c : ℕ) (k : List Station) (w : PlainState) (b : Bytes) (f : Frame) → Refines p c k w → FrameInRange p c b f
+judged_by_record_judged : (p : Parameters) (c : ℕ) (k : List Station) (w : PlainState) (b : Bytes) (f : Result Frame Refusal) → Refines p c k w → FrameInRange p c b f
     → judged_by_station w.panel.time (get_or k (station_of f) fresh_station) b f ≡ judged w.past b f
 unfolding judged_by_station judged_by_record judged_by_number judged station_of
-judged_by_record_judged p c k w b (Bad r) m g = refl
-judged_by_record_judged p c k w b (Clock t) m g = rw (m.times t) (not_before t w.panel.time (TurnedDown 8) (Clocked t))
-judged_by_record_judged p c k w b (Calls call) m g =
+judged_by_record_judged p c k w b (Err r) m g = refl
+judged_by_record_judged p c k w b (Ok (Clock t)) m g = rw (m.times t) (not_before t w.panel.time (Err PastTime) (Ok (Clocked t)))
+judged_by_record_judged p c k w b (Ok (Calls call)) m g =
     let s = call.station in
     let n = call.number in
     let t = call.time in
@@ -134,7 +137,7 @@ judged_by_record_judged p c k w b (Calls call) m g =
       m.tops s n g.number,
       m.times t,
     )
-    (alike n (latest s w.past).number t w.panel.time _ (TurnedDown 7) (TurnedDown 8) (Arrives call))
+    (alike n (latest s w.past).number t w.panel.time _ (Err PastNumber) (Err PastTime) (Ok (Arrives call)))
 
 pub decide_judged : (p : Parameters) (marks c : ℕ) (k : List Station) (w : PlainState) (b : Bytes) → Octets b
     → Refines p c k w
@@ -149,21 +152,21 @@ pub record Arrived (p : Parameters) (c : ℕ) (w : PlainState) (b : Bytes) (call
   pub new : (latest call.station w.past).number < call.number
   pub due : w.panel.time ≤ call.time
 
-abbrev pub Moved : Parameters → ℕ → PlainState → Bytes → Verdict → Type 0
-Moved p c w b (TurnedDown r) = 2 ≤ r
-Moved p c w b (Copied a) = NotOne a
-Moved p c w b (Clocked t) = (w.panel.time ≤ t) × (t < 2 ^ 48)
-Moved p c w b (Arrives call) = Arrived p c w b call
+abbrev pub Moved : Parameters → ℕ → PlainState → Bytes → Result Verdict Refusal → Type 0
+Moved p c w b (Err r) = 2 ≤ r
+Moved p c w b (Ok (Copied a)) = NotOne a
+Moved p c w b (Ok (Clocked t)) = (w.panel.time ≤ t) × (t < 2 ^ 48)
+Moved p c w b (Ok (Arrives call)) = Arrived p c w b call
 
-pub judged_moved : (p : Parameters) (c : ℕ) (k : List Station) (w : PlainState) (b : Bytes) (f : Frame) → Refines p c k w → FrameInRange p c b f
+pub judged_moved : (p : Parameters) (c : ℕ) (k : List Station) (w : PlainState) (b : Bytes) (f : Result Frame Refusal) → Refines p c k w → FrameInRange p c b f
     → Moved p c w b (judged w.past b f)
 unfolding judged retransmission_or_conflict when◌then◌else◌
-judged_moved p c k w b (Bad r) m g = g
-judged_moved p c k w b (Clock t) m g =
+judged_moved p c k w b (Err r) m g = g
+judged_moved p c k w b (Ok (Clock t)) m g =
     rw
     (m.times t)
     (by_le w.panel.time t (λ h e. rw e (h, g)) (λ h e. rw e (omega arith)))
-judged_moved p c k w b (Calls call) m g =
+judged_moved p c k w b (Ok (Calls call)) m g =
     let s = call.station in
     let n = call.number in
     let t = call.time in
@@ -186,15 +189,15 @@ judged_moved p c k w b (Calls call) m g =
     (λ j. rw (e, j) (omega arith))))
 
 -- ONE FRAME
-abbrev pub next_stations : ℕ → Bytes → List Station → PlainState → Verdict → List Station
-next_stations marks b k w (TurnedDown r) = k
-next_stations marks b k w (Copied a) = k
-next_stations marks b k w (Clocked t) = k
-next_stations marks b k w (Arrives call) =
+abbrev pub next_stations : ℕ → Bytes → List Station → PlainState → Result Verdict Refusal → List Station
+next_stations marks b k w (Err r) = k
+next_stations marks b k w (Ok (Copied a)) = k
+next_stations marks b k w (Ok (Clocked t)) = k
+next_stations marks b k w (Ok (Arrives call)) =
     set k call.station
-    (record { answer = (plain_execute marks b w (Arrives call)).answer; number = call.number; frame = padded b })
+    (record { answer = (plain_execute marks b w (Ok (Arrives call))).answer; number = call.number; frame = padded b })
 
-step_same : (p : Parameters) (marks c : ℕ) (k : List Station) (w : PlainState) (b : Bytes) (v : Verdict)
+step_same : (p : Parameters) (marks c : ℕ) (k : List Station) (w : PlainState) (b : Bytes) (v : Result Verdict Refusal)
     → Refines p c k w → Moved p c w b v
     → execute b (joined p marks k w) v
     ≡ record {
@@ -202,11 +205,11 @@ step_same : (p : Parameters) (marks c : ℕ) (k : List Station) (w : PlainState)
       answer = (plain_execute marks b w v).answer;
     }
 unfolding execute plain_execute
-step_same p marks c k w b (TurnedDown r) m g = refl
-step_same p marks c k w b (Copied a) m g = refl
-step_same p marks c k w b (Clocked t) m g =
+step_same p marks c k w b (Err r) m g = refl
+step_same p marks c k w b (Ok (Copied a)) m g = refl
+step_same p marks c k w b (Ok (Clocked t)) m g =
     rw (run_plain_advance p t w.panel g.0 (omega (arith, g.1)) m.sound)
-step_same p marks c k w b (Arrives call) m g =
+step_same p marks c k w b (Ok (Arrives call)) m g =
     rw (run_plain_advance p call.time w.panel g.due (omega (arith, g.frame.time)) m.sound)
 
 and_le : (a b c : ℕ) → b ≤ a → (leb a c also leb b c) ≡ leb a c
@@ -304,15 +307,15 @@ linked_first p c k w b call l a m g e h z =
       others = (z, m.others);
     }
 
-pub step_linked : (p : Parameters) (marks c : ℕ) (k : List Station) (w : PlainState) (b : Bytes) (v : Verdict)
+pub step_linked : (p : Parameters) (marks c : ℕ) (k : List Station) (w : PlainState) (b : Bytes) (v : Result Verdict Refusal)
     → Refines p c k w → Moved p c w b v
     → Refines p c (next_stations marks b k w v) (plain_execute marks b w v).state
 unfolding plain_execute
-step_linked p marks c k w b (TurnedDown r) m g = m
-step_linked p marks c k w b (Copied a) m g = m
-step_linked p marks c k w b (Clocked t) m g =
+step_linked p marks c k w b (Err r) m g = m
+step_linked p marks c k w b (Ok (Copied a)) m g = m
+step_linked p marks c k w b (Ok (Clocked t)) m g =
     rw (run_plain_advance p t w.panel g.0 (omega (arith, g.1)) m.sound) (linked_clock p c k w t m g.0 g.1)
-step_linked p marks c k w b (Arrives call) m g =
+step_linked p marks c k w b (Ok (Arrives call)) m g =
     let t = call.time in
     let i = call.output in
     let r = call.request in
@@ -329,13 +332,13 @@ step_linked p marks c k w b (Arrives call) m g =
     (served_not_one p tenant t l i r g.frame.good))
 
 -- its answer is not refusal 1
-plain_execute_other : (p : Parameters) (marks c : ℕ) (k : List Station) (w : PlainState) (b : Bytes) (v : Verdict)
+plain_execute_other : (p : Parameters) (marks c : ℕ) (k : List Station) (w : PlainState) (b : Bytes) (v : Result Verdict Refusal)
     → Refines p c k w → Moved p c w b v → NotOne (plain_execute marks b w v).answer
 unfolding plain_execute
-plain_execute_other p marks c k w b (TurnedDown r) m g = record { other = omega arith }
-plain_execute_other p marks c k w b (Copied a) m g = g
-plain_execute_other p marks c k w b (Clocked t) m g = record { other = omega arith }
-plain_execute_other p marks c k w b (Arrives call) m g =
+plain_execute_other p marks c k w b (Err r) m g = record { other = omega arith }
+plain_execute_other p marks c k w b (Ok (Copied a)) m g = g
+plain_execute_other p marks c k w b (Ok (Clocked t)) m g = record { other = omega arith }
+plain_execute_other p marks c k w b (Ok (Arrives call)) m g =
     served_not_one p _ _ _ call.output call.request g.frame.good
 
 -- the engine's step from a linked panel is the plain panel's, and the panels are linked again

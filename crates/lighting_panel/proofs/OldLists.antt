@@ -1,5 +1,6 @@
 -- §7 IN LISTS, frame by frame: beside a panel of the set 8, its output count, 14,400,000, 86,400,000 that a
 -- list has left stands the old panel with the same records. The theorem after a start: FourHours.antt.
+use Rattle.std.specs.Prelude.{Result, Ok, Err}
 use mathlib.Core.Path.{◌≡◌, refl, sym, ap, ◌∙◌}
 use mathlib.Core.Bool.{Bool, true, false, false≢true}
 use mathlib.Core.List.{List, [], ◌∷◌, map}
@@ -31,13 +32,12 @@ use Rattle.lighting_outputs.specs.declared.Output.{Output}
 use Rattle.lighting_outputs.specs.declared.OutputRequest.{OutputRequest}
 use Rattle.lighting_outputs.specs.declared.OutputRequest.TheVariants.{Change}
 use Rattle.lighting_outputs.specs.declared.Property.TheVariants.{FadeTime}
-use Rattle.lighting_outputs.specs.declared.Request.TheVariants.{Refuse, ToOutput}
 use Rattle.lighting_outputs.specs.declared.Answer.{Answer}
 use Rattle.lighting_outputs.specs.declared.Answer.TheVariants.{Done, Refused}
 use Rattle.lighting_frames.specs.declared.Frame.{Frame}
-use Rattle.lighting_frames.specs.declared.Frame.TheVariants.{Bad, Clock, Calls}
+use Rattle.lighting_frames.specs.declared.Frame.TheVariants.{Clock, Calls}
 use Rattle.lighting_frames.specs.declared.Verdict.{Verdict}
-use Rattle.lighting_frames.specs.declared.Verdict.TheVariants.{TurnedDown, Copied, Clocked, Arrives}
+use Rattle.lighting_frames.specs.declared.Verdict.TheVariants.{Copied, Clocked, Arrives}
 use Rattle.lighting_levels.proofs.Split.{by_bool, parts}
 use Rattle.lighting_outputs.proofs.ShorterFade.{TakesFade, written, commanded}
 use Rattle.lighting_outputs.proofs.Consequences.Writes.{accepted}
@@ -50,6 +50,8 @@ use Rattle.lighting_panel.proofs.Lists.{joined, Refines, linked_sound, decide_ju
 use Rattle.lighting_panel.proofs.Demand.{never_done}
 use Rattle.lighting_panel.proofs.Consequences.Others.{every_at}
 use Rattle.lighting_panel.proofs.OldPanel.{today, sound_then, Cut, Compared, turned_down, copied_both, short, refused_both, cut_off, compared, frame_by}
+use Rattle.lighting_outputs.specs.declared.Refusal.{Refusal}
+use Rattle.lighting_outputs.specs.declared.Refusal.TheVariants.{WholeOutOfRange}
 
 -- WHAT IS TAKEN IS ANSWERED DONE: a command, and a write of Fade_Time, to a record that keeps the rules
 limits : (p : Parameters) (t : ℕ) (o : Output) → sound p t o ≡ true → o.settings.min ≤ o.settings.max
@@ -63,7 +65,7 @@ values p t o keeps = search parts depth 10
 taken_done : (p : Parameters) (tenant : Bool) (t : ℕ) (outputs : List Output) (i : ℕ) (request : OutputRequest)
     → TakesFade request
     → i < length outputs → every (sound p t) outputs ≡ true
-    → (served tenant t outputs i (ToOutput request)).answer ≡ Done
+    → (served tenant t outputs i (Ok request)).answer ≡ Done
 unfolding served acted done settings_with relay_with same when◌then◌else◌
 taken_done p tenant t outputs i _ (written {v = v}) inside keep =
     let o = get_or outputs i fresh_output in
@@ -87,17 +89,17 @@ latest_short station (first sender number t b a ∷ past) were =
     by_bool (eqb sender station) (λ its. rw its were.0) (λ its. rw its (latest_short station past were.1))
 
 -- so no copy does
-abbrev CopyShort : Bytes → Verdict → Type 0
-CopyShort b (TurnedDown r) = Unit {0}
-CopyShort b (Copied a) = a ≡ Done → carries_longer b ≡ false
-CopyShort b (Clocked t) = Unit {0}
-CopyShort b (Arrives call) = Unit {0}
+abbrev CopyShort : Bytes → Result Verdict Refusal → Type 0
+CopyShort b (Err r) = Unit {0}
+CopyShort b (Ok (Copied a)) = a ≡ Done → carries_longer b ≡ false
+CopyShort b (Ok (Clocked t)) = Unit {0}
+CopyShort b (Ok (Arrives call)) = Unit {0}
 
-judged_short : (past : List Event) (b : Bytes) (frame : Frame) → PastShort past → CopyShort b (judged past b frame)
+judged_short : (past : List Event) (b : Bytes) (frame : Result Frame Refusal) → PastShort past → CopyShort b (judged past b frame)
 unfolding judged retransmission_or_conflict when◌then◌else◌
-judged_short past b (Bad r) were = tt
-judged_short past b (Clock t) were = by_bool (in_time t past) (λ timely. rw timely tt) (λ late. rw late tt)
-judged_short past b (Calls call) were =
+judged_short past b (Err r) were = tt
+judged_short past b (Ok (Clock t)) were = by_bool (in_time t past) (λ timely. rw timely tt) (λ late. rw late tt)
+judged_short past b (Ok (Calls call)) were =
     let last = latest call.station past in
     by_bool (above call.station call.number past)
     (λ new. rw new (by_bool (in_time call.time past) (λ timely. rw timely tt) (λ late. rw late tt)))
@@ -110,14 +112,14 @@ judged_short past b (Calls call) were =
     (λ other. rw other tt)))
     (λ below. rw below tt)))
 
-past_short : (b : Bytes) (w : PlainState) (verdict : Verdict) → PastShort w.past
+past_short : (b : Bytes) (w : PlainState) (verdict : Result Verdict Refusal) → PastShort w.past
     → ((plain_execute 0 b w verdict).answer ≡ Done → carries_longer b ≡ false)
     → PastShort (plain_execute 0 b w verdict).state.past
 unfolding plain_execute
-past_short b w (TurnedDown r) were is = were
-past_short b w (Copied a) were is = were
-past_short b w (Clocked t) were is = were
-past_short b w (Arrives call) were is = (is, were)
+past_short b w (Err r) were is = were
+past_short b w (Ok (Copied a)) were is = were
+past_short b w (Ok (Clocked t)) were is = were
+past_short b w (Ok (Arrives call)) were is = (is, were)
 
 -- THE OLD PANEL BESIDE A LIST: what the list theorem has of today's is there of the old one too, but the set
 abbrev pub old : List Station → PlainState → OldPanel
@@ -141,10 +143,10 @@ module _ (c : ℕ) (k : List Station) (w : PlainState) (b : Bytes) (octets : Oct
 
   -- what is cut the old panel answers with Done, and today's with 12
   module _ (z : Cut e b) where
-    arrival : Arrived p c w b (asking z.call (Refuse 12))
+    arrival : Arrived p c w b (asking z.call (Err WholeOutOfRange))
     arrival =
         let moved = judged_moved p c k w b (parse p c b) m (frame_in_range p c b octets) in
-        let refused = Arrives (asking z.call (Refuse 12)) in
+        let refused = Ok (Arrives (asking z.call (Err WholeOutOfRange))) in
         let arrives : judged w.past b (parse p c b) ≡ refused = rw m.count at (sym verdict ∙ z.now) in
         rw arrives at moved
 
@@ -183,7 +185,7 @@ module _ (c : ℕ) (k : List Station) (w : PlainState) (b : Bytes) (octets : Oct
       (sym (frame_by e b rules never) ∙ ap (λ (x : Panel). frame_step x b) today_joined ∙ stepped.same)
 
   -- and the other way round: where both answer alike, Done is of no frame that carries one
-  old_answer : {v : Verdict} → old_decide e b ≡ v → (old_frame e b).answer ≡ (old_execute b e v).answer
+  old_answer : {v : Result Verdict Refusal} → old_decide e b ≡ v → (old_frame e b).answer ≡ (old_execute b e v).answer
   unfolding old_frame when◌then◌else◌
   old_answer before = rw (sound_then e rules, before)
 
@@ -196,7 +198,7 @@ module _ (c : ℕ) (k : List Station) (w : PlainState) (b : Bytes) (octets : Oct
       by (turned_down {r = r} before now) = absurd (never_done r (sym (old_answer before) ∙ isDone))
       by (copied_both {a = a} before now) =
           let known = judged_short w.past b (parse p (length w.panel.outputs) b) were in
-          let copy : CopyShort b (Copied a) = rw (sym verdict ∙ now) at known in
+          let copy : CopyShort b (Ok (Copied a)) = rw (sym verdict ∙ now) at known in
           copy (sym (old_answer before) ∙ isDone)
       by (short none both) = none
       by (refused_both {r = r} call asked before now) =

@@ -1,6 +1,7 @@
 -- THE OLD PANEL AND TODAY'S AT THE SET 8, ITS OUTPUT COUNT, 14,400,000, 86,400,000 (§7), WITH NO TENANT (§8):
 -- of one frame over every lent table that keeps the rules of four hours and the marks 0, and of the start.
 -- Lists: FourHours.antt.
+use Rattle.std.specs.Prelude.{Result, Ok, Err}
 use mathlib.Core.Path.{◌≡◌, refl, sym, ap, ◌∙◌}
 use mathlib.Core.Bool.{Bool, true, false, false≢true}
 use mathlib.Core.List.{List, [], ◌∷◌, map}
@@ -26,14 +27,13 @@ use Rattle.lighting_panel.specs.Engine.Judging.{restored, judged_by_number, judg
 use Rattle.lighting_panel.specs.Engine.Executing.{execute, frame_step}
 use Rattle.lighting_outputs.specs.declared.Output.{Output}
 use Rattle.lighting_outputs.specs.declared.OutputRequest.{OutputRequest}
-use Rattle.lighting_outputs.specs.declared.Request.{Request}
-use Rattle.lighting_outputs.specs.declared.Request.TheVariants.{Refuse, ToOutput}
+use Rattle.lighting_outputs.specs.Paper.Answers.{Request}
 use Rattle.lighting_outputs.specs.declared.Answer.{Answer}
 use Rattle.lighting_outputs.specs.declared.Answer.TheVariants.{Done, Refused}
 use Rattle.lighting_frames.specs.declared.Call.{Call}
 use Rattle.lighting_frames.specs.declared.Frame.{Frame}
 use Rattle.lighting_frames.specs.declared.Verdict.{Verdict}
-use Rattle.lighting_frames.specs.declared.Verdict.TheVariants.{TurnedDown, Copied, Clocked, Arrives}
+use Rattle.lighting_frames.specs.declared.Verdict.TheVariants.{Copied, Clocked, Arrives}
 use Rattle.lighting_levels.proofs.Split.{by_bool, also_both, also_yes, eqb_hit}
 use Rattle.lighting_outputs.proofs.OutputCount as Count
 use Rattle.lighting_outputs.proofs.ShorterFade.{with_fade, TakesFade, Shortened, alike, refused, cut}
@@ -46,6 +46,8 @@ use Rattle.lighting_outputs.proofs.Consequences.Numbers.{fresh}
 use Rattle.lighting_panel.proofs.Demand.{never_done}
 use Rattle.lighting_panel.proofs.Carried.{start_step_refused, start_step_done}
 use Rattle.lighting_panel.proofs.Table.{served_length}
+use Rattle.lighting_outputs.specs.declared.Refusal.{Refusal}
+use Rattle.lighting_outputs.specs.declared.Refusal.TheVariants.{WholeOutOfRange}
 
 -- THE SET: the old panel's, with as many outputs as the table has
 abbrev pub set_of : OldPanel → Parameters
@@ -87,14 +89,14 @@ sound_then e h =
     (also_yes (every_rule (length e.outputs) e.time e.outputs records.0) records.1)
 
 -- THE VERDICT, by document 01's numbers and by four hours: at most what is asked differs
-pub data ShortenedVerdict (between : Bool) : Verdict → Verdict → Type 0 where
-  turned : {r : ℕ} → ShortenedVerdict between (TurnedDown r) (TurnedDown r)
-  copied : {a : Answer} → ShortenedVerdict between (Copied a) (Copied a)
-  timed : {t : ℕ} → between ≡ false → ShortenedVerdict between (Clocked t) (Clocked t)
+pub data ShortenedVerdict (between : Bool) : Result Verdict Refusal → Result Verdict Refusal → Type 0 where
+  turned : {r : ℕ} → ShortenedVerdict between (Err r) (Err r)
+  copied : {a : Answer} → ShortenedVerdict between (Ok (Copied a)) (Ok (Copied a))
+  timed : {t : ℕ} → between ≡ false → ShortenedVerdict between (Ok (Clocked t)) (Ok (Clocked t))
   arrives : (call : Call) (request : Request) → Shortened between call.request request
-      → ShortenedVerdict between (Arrives call) (Arrives (asking call request))
+      → ShortenedVerdict between (Ok (Arrives call)) (Ok (Arrives (asking call request)))
 
-judged : {between : Bool} {long short : Frame} (now : ℕ) (stations : List Station) (b : Bytes)
+judged : {between : Bool} {long short : Result Frame Refusal} (now : ℕ) (stations : List Station) (b : Bytes)
     → ShortenedFrame between long short
     → ShortenedVerdict between
     (judged_by_station now (get_or stations (station_of long) fresh_station) b long)
@@ -126,42 +128,42 @@ verdicts e b =
 abbrev pub step_with : Parameters → OldStep → Step
 step_with p s = panel_result (with_set p s.panel) s.answer
 
-same_execute : (p : Parameters) (b : Bytes) (e : OldPanel) (v : Verdict)
+same_execute : (p : Parameters) (b : Bytes) (e : OldPanel) (v : Result Verdict Refusal)
     → execute b (with_set p e) v ≡ step_with p (old_execute b e v)
 unfolding execute old_execute
-same_execute p b e (TurnedDown r) = refl
-same_execute p b e (Copied a) = refl
-same_execute p b e (Clocked t) = refl
-same_execute p b e (Arrives call) = refl
+same_execute p b e (Err r) = refl
+same_execute p b e (Ok (Copied a)) = refl
+same_execute p b e (Ok (Clocked t)) = refl
+same_execute p b e (Ok (Arrives call)) = refl
 
 -- ONE FRAME. It is CUT where the old panel takes a longer fade time, which is 12 by four hours
 pub record Cut (e : OldPanel) (b : Bytes) : Type 0 where
   pub call : Call
   pub request : OutputRequest
-  pub before : old_decide e b ≡ Arrives call
-  pub now : decide (today e) b ≡ Arrives (asking call (Refuse 12))
-  pub asked : call.request ≡ ToOutput request
+  pub before : old_decide e b ≡ Ok (Arrives call)
+  pub now : decide (today e) b ≡ Ok (Arrives (asking call (Err WholeOutOfRange)))
+  pub asked : call.request ≡ Ok request
   pub takes : TakesFade request
   pub longer : carries_longer b ≡ true
 
 -- THE TWO VERDICTS on every string of bytes: turned down alike, or copies; a frame without a longer fade
 -- time; a first arrival that both refuse; or one that is cut
 pub data Compared (e : OldPanel) (b : Bytes) : Type 0 where
-  turned_down : {r : ℕ} → old_decide e b ≡ TurnedDown r → decide (today e) b ≡ TurnedDown r → Compared e b
-  copied_both : {a : Answer} → old_decide e b ≡ Copied a → decide (today e) b ≡ Copied a → Compared e b
+  turned_down : {r : ℕ} → old_decide e b ≡ Err r → decide (today e) b ≡ Err r → Compared e b
+  copied_both : {a : Answer} → old_decide e b ≡ Ok (Copied a) → decide (today e) b ≡ Ok (Copied a) → Compared e b
   short : carries_longer b ≡ false → decide (today e) b ≡ old_decide e b → Compared e b
-  refused_both : {r : ℕ} (call : Call) → call.request ≡ Refuse r → old_decide e b ≡ Arrives call
-      → decide (today e) b ≡ Arrives call → Compared e b
+  refused_both : {r : ℕ} (call : Call) → call.request ≡ Err r → old_decide e b ≡ Ok (Arrives call)
+      → decide (today e) b ≡ Ok (Arrives call) → Compared e b
   cut_off : Cut e b → Compared e b
 
-arriving : (call : Call) {request : Request} → call.request ≡ request → Arrives (asking call request) ≡ Arrives call
-arriving call asked = ap (λ (r : Request). Arrives (asking call r)) (sym asked)
+arriving : (call : Call) {request : Request} → call.request ≡ request → Ok (Arrives (asking call request)) ≡ Ok (Arrives call)
+arriving call asked = ap (λ (r : Request). Ok (Arrives (asking call r))) (sym asked)
 
 pub compared : (e : OldPanel) (b : Bytes) → Compared e b
 compared e b = by (verdicts e b) refl refl
   where
     ask : (call : Call) {long request : Request} → Shortened (carries_longer b) long request → call.request ≡ long
-        → old_decide e b ≡ Arrives call → decide (today e) b ≡ Arrives (asking call request) → Compared e b
+        → old_decide e b ≡ Ok (Arrives call) → decide (today e) b ≡ Ok (Arrives (asking call request)) → Compared e b
     ask call (alike none) asked before now = short none (now ∙ arriving call asked ∙ sym before)
     ask call refused asked before now = refused_both call asked before (now ∙ arriving call asked)
     ask call (cut {request = request} longer takes) asked before now =
@@ -176,7 +178,7 @@ compared e b = by (verdicts e b) refl refl
           longer = longer;
         })
 
-    by : {long shorter : Verdict} → ShortenedVerdict (carries_longer b) long shorter
+    by : {long shorter : Result Verdict Refusal} → ShortenedVerdict (carries_longer b) long shorter
         → old_decide e b ≡ long → decide (today e) b ≡ shorter → Compared e b
     by turned before now = turned_down before now
     by copied before now = copied_both before now
@@ -207,12 +209,12 @@ pub old_frame_lem : (e : OldPanel) (b : Bytes) → panel_sound (today e) ≡ tru
 old_frame_lem e b h none = frame_by e b h (λ z. false≢true (sym none ∙ z.longer))
 
 -- A frame leaves as many outputs as there are, so the set stays the table's
-execute_length : (b : Bytes) (e : OldPanel) (v : Verdict) → length (old_execute b e v).panel.outputs ≡ length e.outputs
+execute_length : (b : Bytes) (e : OldPanel) (v : Result Verdict Refusal) → length (old_execute b e v).panel.outputs ≡ length e.outputs
 unfolding old_execute execute
-execute_length b e (TurnedDown r) = refl
-execute_length b e (Copied a) = refl
-execute_length b e (Clocked t) = length-map e.outputs (advance e.time t)
-execute_length b e (Arrives call) =
+execute_length b e (Err r) = refl
+execute_length b e (Ok (Copied a)) = refl
+execute_length b e (Ok (Clocked t)) = length-map e.outputs (advance e.time t)
+execute_length b e (Ok (Arrives call)) =
     served_length _ call.time (map (advance e.time call.time) e.outputs) call.output call.request
     ∙ length-map e.outputs (advance e.time call.time)
 

@@ -1,5 +1,6 @@
 -- FRAMES UNDER OTHER NAMES: a list in which each frame is put into another form that is read alike, and in
 -- which different frames stay different, finds and answers the same. Nothing here looks at a kind of frame.
+use Rattle.std.specs.Prelude.{Result, Ok, Err}
 use Rattle.lighting_levels.specs.Paper.Choice.{when◌then◌else◌, Every}
 use mathlib.Core.Path.{◌≡◌, refl, ap, ◌∙◌}
 use mathlib.Core.List.{List, ◌∷◌, map, []}
@@ -13,10 +14,11 @@ use Rattle.lighting_panel.specs.Paper.Plain.{Event, clock, first, above, in_time
 use Rattle.lighting_panel.specs.Paper.Demand.{plain_after, plain_answers}
 use Rattle.lighting_outputs.specs.declared.Answer.{Answer}
 use Rattle.lighting_frames.specs.declared.Frame.{Frame}
-use Rattle.lighting_frames.specs.declared.Frame.TheVariants.{Bad, Clock, Calls}
+use Rattle.lighting_frames.specs.declared.Frame.TheVariants.{Clock, Calls}
 use Rattle.lighting_frames.specs.declared.Verdict.{Verdict}
-use Rattle.lighting_frames.specs.declared.Verdict.TheVariants.{TurnedDown, Copied, Clocked, Arrives}
+use Rattle.lighting_frames.specs.declared.Verdict.TheVariants.{Copied, Clocked, Arrives}
 use Rattle.lighting_levels.proofs.Split.{by_bool}
+use Rattle.lighting_outputs.specs.declared.Refusal.{Refusal}
 
 -- a way to rename frames of some sort: they are read alike, and no two become one
 pub record Renaming (p : Parameters) (s : Bytes → Bytes) (Sort : Bytes → Type 0) : Type 0 where
@@ -64,11 +66,11 @@ module _ (p : Parameters) (marks : ℕ) (s : Bytes → Bytes) (Sort : Bytes → 
   latest_sort k (first k' n t b a ∷ h) g = by_bool (eqb k' k) (λ e. rw e g.0) (λ e. rw e (latest_sort k h g.1))
 
   -- JUDGED ALIKE
-  judged_renamed : (h : List Event) (b : Bytes) (f : Frame) → AllPast h → Sort b → judged (map rename h) (s b) f ≡ judged h b f
+  judged_renamed : (h : List Event) (b : Bytes) (f : Result Frame Refusal) → AllPast h → Sort b → judged (map rename h) (s b) f ≡ judged h b f
   unfolding judged
-  judged_renamed h b (Bad n) g d = refl
-  judged_renamed h b (Clock t) g d = rw (in_time_renamed t h)
-  judged_renamed h b (Calls call) g d =
+  judged_renamed h b (Err n) g d = refl
+  judged_renamed h b (Ok (Clock t)) g d = rw (in_time_renamed t h)
+  judged_renamed h b (Ok (Calls call)) g d =
       let k = call.station in
       rw
       (latest_renamed k h, above_renamed k call.number h, in_time_renamed call.time h, r.apart b (latest k h).frame d (latest_sort k h g))
@@ -77,22 +79,22 @@ module _ (p : Parameters) (marks : ℕ) (s : Bytes → Bytes) (Sort : Bytes → 
   abbrev rename_state : PlainState → PlainState
   rename_state w = record { past = map rename w.past; panel = w.panel }
 
-  execute_renamed : (b : Bytes) (w : PlainState) (v : Verdict)
+  execute_renamed : (b : Bytes) (w : PlainState) (v : Result Verdict Refusal)
       → plain_execute marks (s b) (rename_state w) v
       ≡ record { state = rename_state (plain_execute marks b w v).state; answer = (plain_execute marks b w v).answer }
   unfolding plain_execute
-  execute_renamed b w (TurnedDown n) = refl
-  execute_renamed b w (Copied a) = refl
-  execute_renamed b w (Clocked t) = refl
-  execute_renamed b w (Arrives call) = refl
+  execute_renamed b w (Err n) = refl
+  execute_renamed b w (Ok (Copied a)) = refl
+  execute_renamed b w (Ok (Clocked t)) = refl
+  execute_renamed b w (Ok (Arrives call)) = refl
 
-  execute_sort : (b : Bytes) (w : PlainState) (v : Verdict) → Sort b → AllPast w.past
+  execute_sort : (b : Bytes) (w : PlainState) (v : Result Verdict Refusal) → Sort b → AllPast w.past
       → AllPast (plain_execute marks b w v).state.past
   unfolding plain_execute
-  execute_sort b w (TurnedDown n) d g = g
-  execute_sort b w (Copied a) d g = g
-  execute_sort b w (Clocked t) d g = g
-  execute_sort b w (Arrives call) d g = (d, g)
+  execute_sort b w (Err n) d g = g
+  execute_sort b w (Ok (Copied a)) d g = g
+  execute_sort b w (Ok (Clocked t)) d g = g
+  execute_sort b w (Ok (Arrives call)) d g = (d, g)
 
   step_renamed : (w : PlainState) (b : Bytes) → AllPast w.past → Sort b
       → plain_frame_step p marks (rename_state w) (s b)

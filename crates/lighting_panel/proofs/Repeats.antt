@@ -1,5 +1,6 @@
 -- Frames of a list that come again later change nothing of the panel, and no answer to the frames of the
 -- list.
+use Rattle.std.specs.Prelude.{Result, Ok, Err}
 use mathlib.Core.Path.{◌≡◌, refl, ap, subst, sym}
 use mathlib.Core.List.{List, [], ◌∷◌}
 use lib.ListN.{length}
@@ -17,15 +18,16 @@ use Rattle.lighting_panel.specs.Paper.Demand.{after, answers, Again, end, own, c
 use Rattle.lighting_outputs.specs.declared.Answer.{Answer}
 use Rattle.lighting_frames.specs.declared.Call.{Call}
 use Rattle.lighting_frames.specs.declared.Frame.{Frame}
-use Rattle.lighting_frames.specs.declared.Frame.TheVariants.{Bad, Clock, Calls}
+use Rattle.lighting_frames.specs.declared.Frame.TheVariants.{Clock, Calls}
 use Rattle.lighting_frames.specs.declared.Verdict.{Verdict}
-use Rattle.lighting_frames.specs.declared.Verdict.TheVariants.{TurnedDown, Copied, Clocked, Arrives}
+use Rattle.lighting_frames.specs.declared.Verdict.TheVariants.{Copied, Clocked, Arrives}
 use Rattle.lighting_levels.proofs.Split.{by_eq, by_lt, by_le, by_bool, eqb_hit, leb_no}
 use Rattle.lighting_levels.proofs.Every.{every_then}
 use Rattle.lighting_panel.proofs.Among.{every_among}
 use Rattle.lighting_frames.proofs.Reading.{FrameInRange, frame_in_range}
 use Rattle.lighting_panel.proofs.Table.{run_plain_advance, advance_here}
 use Rattle.lighting_panel.proofs.Lists.{joined, Refines, Moved, judged_moved, decide_judged, linked_sound, step}
+use Rattle.lighting_outputs.specs.declared.Refusal.{Refusal}
 
 -- a frame that can no longer move the panel: its number is not above its station's latest, or its time is
 -- past
@@ -33,32 +35,32 @@ data Stale (w : PlainState) (call : Call) : Type 0 where
   old : call.number ≤ (latest call.station w.past).number → Stale w call
   late : call.time < w.panel.time → Stale w call
 
-abbrev Spent : PlainState → Frame → Type 0
-Spent w (Bad r) = Unit {0}
-Spent w (Clock t) = t ≤ w.panel.time
-Spent w (Calls call) = Stale w call
+abbrev Spent : PlainState → Result Frame Refusal → Type 0
+Spent w (Err r) = Unit {0}
+Spent w (Ok (Clock t)) = t ≤ w.panel.time
+Spent w (Ok (Calls call)) = Stale w call
 
 -- time and numbers only grow, so what is spent stays spent
 record Grows (w w' : PlainState) : Type 0 where
   time : w.panel.time ≤ w'.panel.time
   number : (s : ℕ) → (latest s w.past).number ≤ (latest s w'.past).number
 
-spent_grows : (w w' : PlainState) (f : Frame) → Grows w w' → Spent w f → Spent w' f
-spent_grows w w' (Bad r) g h = tt
-spent_grows w w' (Clock t) g h = omega (arith, g.time)
-spent_grows w w' (Calls call) g (old h) = old (omega (arith, g.number call.station))
-spent_grows w w' (Calls call) g (late h) = late (omega (arith, g.time))
+spent_grows : (w w' : PlainState) (f : Result Frame Refusal) → Grows w w' → Spent w f → Spent w' f
+spent_grows w w' (Err r) g h = tt
+spent_grows w w' (Ok (Clock t)) g h = omega (arith, g.time)
+spent_grows w w' (Ok (Calls call)) g (old h) = old (omega (arith, g.number call.station))
+spent_grows w w' (Ok (Calls call)) g (late h) = late (omega (arith, g.time))
 
-plain_execute_grows : (p : Parameters) (marks c : ℕ) (k : List Station) (w : PlainState) (b : Bytes) (v : Verdict)
+plain_execute_grows : (p : Parameters) (marks c : ℕ) (k : List Station) (w : PlainState) (b : Bytes) (v : Result Verdict Refusal)
     → Refines p c k w → Moved p c w b v → Grows w (plain_execute marks b w v).state
 unfolding plain_execute latest when◌then◌else◌
-plain_execute_grows p marks c k w b (TurnedDown r) m g = record { time = omega arith; number = λ s. omega arith }
-plain_execute_grows p marks c k w b (Copied a) m g = record { time = omega arith; number = λ s. omega arith }
-plain_execute_grows p marks c k w b (Clocked t) m g =
+plain_execute_grows p marks c k w b (Err r) m g = record { time = omega arith; number = λ s. omega arith }
+plain_execute_grows p marks c k w b (Ok (Copied a)) m g = record { time = omega arith; number = λ s. omega arith }
+plain_execute_grows p marks c k w b (Ok (Clocked t)) m g =
     rw
     (run_plain_advance p t w.panel g.0 (omega (arith, g.1)) m.sound)
     (record { time = g.0; number = λ s. omega arith })
-plain_execute_grows p marks c k w b (Arrives call) m g =
+plain_execute_grows p marks c k w b (Ok (Arrives call)) m g =
     rw
     (run_plain_advance p call.time w.panel g.due (omega (arith, g.frame.time)) m.sound)
     (record {
@@ -67,12 +69,12 @@ plain_execute_grows p marks c k w b (Arrives call) m g =
     })
 
 -- once judged, a frame is spent
-now_spent : (p : Parameters) (marks c : ℕ) (k : List Station) (w : PlainState) (b : Bytes) (f : Frame)
+now_spent : (p : Parameters) (marks c : ℕ) (k : List Station) (w : PlainState) (b : Bytes) (f : Result Frame Refusal)
     → Refines p c k w → FrameInRange p c b f
     → Spent (plain_execute marks b w (judged w.past b f)).state f
 unfolding judged retransmission_or_conflict plain_execute latest when◌then◌else◌
-now_spent p marks c k w b (Bad r) m g = tt
-now_spent p marks c k w b (Clock t) m g =
+now_spent p marks c k w b (Err r) m g = tt
+now_spent p marks c k w b (Ok (Clock t)) m g =
     rw
     (m.times t)
     (by_le
@@ -80,7 +82,7 @@ now_spent p marks c k w b (Clock t) m g =
     t
     (λ h e. rw (e, run_plain_advance p t w.panel h (omega arith) m.sound) (omega arith))
     (λ h e. rw e (omega arith)))
-now_spent p marks c k w b (Calls call) m g =
+now_spent p marks c k w b (Ok (Calls call)) m g =
     let s = call.station in
     let n = call.number in
     let t = call.time in
@@ -103,12 +105,12 @@ now_spent p marks c k w b (Calls call) m g =
     (λ y. rw (e, y) (old h))))
 
 -- what a spent frame leaves: everything
-stays : (p : Parameters) (marks c : ℕ) (k : List Station) (w : PlainState) (b : Bytes) (f : Frame)
+stays : (p : Parameters) (marks c : ℕ) (k : List Station) (w : PlainState) (b : Bytes) (f : Result Frame Refusal)
     → Refines p c k w → FrameInRange p c b f → Spent w f
     → (execute b (joined p marks k w) (judged w.past b f)).panel ≡ joined p marks k w
 unfolding judged retransmission_or_conflict execute when◌then◌else◌
-stays p marks c k w b (Bad r) m g h = refl
-stays p marks c k w b (Clock t) m g h =
+stays p marks c k w b (Err r) m g h = refl
+stays p marks c k w b (Ok (Clock t)) m g h =
     rw
     (m.times t)
     (by_le
@@ -118,7 +120,7 @@ stays p marks c k w b (Clock t) m g h =
     let q = advance_here p w.panel.time w.panel.outputs m.bounded m.sound in
     rw e (rw y (rw q)))
     (λ h' e. rw e))
-stays p marks c k w b (Calls call) m g (old h) =
+stays p marks c k w b (Ok (Calls call)) m g (old h) =
     let s = call.station in
     let n = call.number in
     rw
@@ -127,7 +129,7 @@ stays p marks c k w b (Calls call) m g (old h) =
     (eqb n (latest s w.past).number)
     (λ y. by_bool (same_bytes b (latest s w.past).frame) (λ q. rw (y, q)) (λ q. rw (y, q)))
     (λ y. rw y))
-stays p marks c k w b (Calls call) m g (late h) =
+stays p marks c k w b (Ok (Calls call)) m g (late h) =
     let s = call.station in
     let n = call.number in
     let t = call.time in

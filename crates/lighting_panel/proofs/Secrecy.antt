@@ -1,5 +1,6 @@
 -- §8, THE CLAIM OF SECRECY: two panels that are alike in all that Secrecy.antt names give a tenant's kind 05
 -- the same answer, EVERY string of bytes of that kind.
+use Rattle.std.specs.Prelude.{Result, Ok, Err}
 use mathlib.Core.Path.{◌≡◌, refl, sym, ap, ◌∙◌}
 use mathlib.Core.Logic.{◌≢◌}
 use mathlib.Core.Bool.{true, false, false≢true}
@@ -25,10 +26,10 @@ use Rattle.lighting_frames.specs.Paper.Stations.{fresh_station}
 use Rattle.lighting_frames.specs.declared.Action.TheVariants.{ReadsProperty}
 use Rattle.lighting_frames.specs.declared.Call.{Call}
 use Rattle.lighting_frames.specs.declared.Frame.{Frame}
-use Rattle.lighting_frames.specs.declared.Frame.TheVariants.{Bad, Calls}
+use Rattle.lighting_frames.specs.declared.Frame.TheVariants.{Calls}
 use Rattle.lighting_frames.specs.declared.Station.{Station}
 use Rattle.lighting_frames.specs.declared.Verdict.{Verdict}
-use Rattle.lighting_frames.specs.declared.Verdict.TheVariants.{TurnedDown, Copied, Arrives}
+use Rattle.lighting_frames.specs.declared.Verdict.TheVariants.{Copied, Arrives}
 use Rattle.lighting_frames.specs.Paper.Copies.{same_bytes, retransmission_or_conflict}
 use Rattle.lighting_panel.specs.Paper.Panel.{Panel, Step, panel_result, counts_sound, rules_kept, panel_sound}
 use Rattle.lighting_panel.specs.Engine.Judging.{restored, judged_by_number, judged_by_record, station_of, judged_by_station, decide}
@@ -42,20 +43,22 @@ use Rattle.lighting_frames.proofs.Reading.{six_bytes}
 use Rattle.lighting_frames.proofs.Tagging.InTags.{same_self}
 use Rattle.lighting_panel.proofs.Carried.{frame_step_execute, sound_outputs}
 use Rattle.lighting_panel.proofs.Consequences.Others.{at_map, every_at}
+use Rattle.lighting_outputs.specs.declared.Refusal.{Refusal}
+use Rattle.lighting_outputs.specs.declared.Refusal.TheVariants.{WrongLength, UnknownStation, UnknownOutput}
 
 -- A STRING OF KIND 05, read: of the set it asks the numbers of stations and of outputs
 reading : Bytes → Call
 reading b = call_of (record { stations = 0; outputs = 0; fade = 0; duration = 0 }) ReadsProperty b
 
-abbrev read_by : ℕ → ℕ → Bytes → Frame
+abbrev read_by : ℕ → ℕ → Bytes → Result Frame Refusal
 read_by stations outputs b =
     when eqb (length b) 14
     then (
     when ltb (byte_at b 1) stations
-    then (when eqb (big_endian 4 b 2) 0 then Bad 4 else when ltb (byte_at b 12) outputs then Calls (reading b) else Bad 5)
-    else Bad 4
+    then (when eqb (big_endian 4 b 2) 0 then Err UnknownStation else when ltb (byte_at b 12) outputs then Ok (Calls (reading b)) else Err UnknownOutput)
+    else Err UnknownStation
     )
-    else Bad 3
+    else Err WrongLength
 
 parsed : (p : Parameters) (outputs : ℕ) (b : Bytes) → OfKind05 b
     → parse p outputs b ≡ read_by p.stations outputs b
@@ -68,13 +71,13 @@ unfolding panel_sound rules_kept counts_sound
 output_count e h = eq_of (also_both (also_both (also_both h).1).0).0
 
 -- WHAT A VERDICT on such a string may be: it is turned down, is a copy, or arrives, at an output of the table
-data Judged05 (e : Panel) (b : Bytes) : Verdict → Type 0 where
-  turned : {r : ℕ} → Judged05 e b (TurnedDown r)
-  copied : {a : Answer} → Judged05 e b (Copied a)
-  comes : e.kept.time ≤ moment b → addressed b < length e.outputs → Judged05 e b (Arrives (reading b))
+data Judged05 (e : Panel) (b : Bytes) : Result Verdict Refusal → Type 0 where
+  turned : {r : ℕ} → Judged05 e b (Err r)
+  copied : {a : Answer} → Judged05 e b (Ok (Copied a))
+  comes : e.kept.time ≤ moment b → addressed b < length e.outputs → Judged05 e b (Ok (Arrives (reading b)))
 
 -- judged by the record of the station that it names; the record is asked only if there is such a station
-abbrev judged_by : ℕ → ℕ → ℕ → Station → Bytes → Verdict
+abbrev judged_by : ℕ → ℕ → ℕ → Station → Bytes → Result Verdict Refusal
 judged_by stations outputs now k b = judged_by_station now k b (read_by stations outputs b)
 
 by_sender : (stations outputs now : ℕ) (table : List Station) (b : Bytes)
@@ -148,7 +151,7 @@ brought_there e b octets h timely inside =
 -- the frame's time
 answer_first : (e : Panel) (b : Bytes) → Octets b → panel_sound e ≡ true → e.kept.time ≤ moment b
     → is_tenant e.kept.tenants (sender b) ≡ true → addressed b < length e.outputs
-    → (execute b e (Arrives (reading b))).answer
+    → (execute b e (Ok (Arrives (reading b)))).answer
     ≡ read_property for_tenant (moment b) (brought e b) (property_of (byte_at b 13))
 unfolding execute served acted unchanged reading call_of request_of
 answer_first e b octets h timely tenant inside =
@@ -164,7 +167,7 @@ module _ (e e' : Panel) (b : Bytes) (kind : OfKind05 b) (rules : Alike neither_m
   judged_alike =
       decided e b kind rules.0 ∙ rw (stations, outputs, time, station) refl ∙ sym (decided e' b kind rules.1)
 
-  by_verdict : Octets b → (v : Verdict) → Judged05 e b v → is_tenant e.kept.tenants (sender b) ≡ true
+  by_verdict : Octets b → (v : Result Verdict Refusal) → Judged05 e b v → is_tenant e.kept.tenants (sender b) ≡ true
       → is_tenant e'.kept.tenants (sender b) ≡ true
       → ((what : Learnt) → e.kept.time ≤ moment b → AlikeIn what (moment b) (brought e b) (brought e' b))
       → (execute b e v).answer ≡ (execute b e' v).answer
@@ -192,7 +195,7 @@ secret e e' b octets kind alike =
     ap (λ (s : Step). s.answer) (frame_step_execute e b rules.0)
     ∙ by_verdict e e' b kind rules stations outputs time (alike its_record)
     octets (decide e b) verdict (alike its_mark).0 (alike its_mark).1 (λ what. alike (learnt what))
-    ∙ ap (λ (v : Verdict). (execute b e' v).answer) same
+    ∙ ap (λ (v : Result Verdict Refusal). (execute b e' v).answer) same
     ∙ sym (ap (λ (s : Step). s.answer) (frame_step_execute e' b rules.1))
 
 -- in the paper's words

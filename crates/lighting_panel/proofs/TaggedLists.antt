@@ -1,5 +1,6 @@
 -- IN LISTS TOO (§1): any commands of a list sent in tags instead, every copy of a frame like its first: what
 -- is found and every answer stay, if no frame of the list is what another one becomes.
+use Rattle.std.specs.Prelude.{Option, None}
 use mathlib.Core.Path.{◌≡◌, refl, sym, ap, ◌∙◌}
 use mathlib.Core.Bool.{Bool, true}
 use mathlib.Core.List.{List, ◌∷◌, map, []}
@@ -16,8 +17,7 @@ use Rattle.lighting_panel.specs.Paper.Demand.{Among, here, there}
 use Rattle.lighting_frames.specs.Paper.InTags.{sent}
 use Rattle.lighting_panel.specs.Paper.ActsAsPlain.{NoneBecomesAnother, ActsAsPlain}
 use Rattle.lighting_outputs.specs.declared.Answer.TheVariants.{Done}
-use Rattle.lighting_frames.specs.declared.TagField.{TagField}
-use Rattle.lighting_frames.specs.declared.TagField.TheVariants.{Holds, Missing}
+use Rattle.lighting_frames.specs.declared.TagContent.{TagContent}
 use Rattle.lighting_frames.specs.declared.TagFields.{TagFields}
 use Rattle.lighting_levels.specs.Paper.Choice.{Every}
 use Rattle.lighting_levels.proofs.Every.{every_map}
@@ -31,7 +31,7 @@ use Rattle.lighting_panel.proofs.Calls.{once}
 use Rattle.lighting_panel.proofs.Renamed.{Renaming, start_renamed}
 
 -- A FRAME IN TAGS IS A STRING OF BYTES
-tags_octets : (number : ℕ) (allowed : List OctetRange) (fields : List TagField) → ThreeBits allowed → AllFit allowed fields → number + length fields ≤ 16
+tags_octets : (number : ℕ) (allowed : List OctetRange) (fields : List (Option TagContent)) → ThreeBits allowed → AllFit allowed fields → number + length fields ≤ 16
     → Octets (bytes_from number fields)
 unfolding bytes_from field_bytes
 tags_octets number [] [] t f h = tt
@@ -40,7 +40,7 @@ tags_octets number (allowed ∷ more) [] t f h = absurd f
 tags_octets number (allowed ∷ more) (Holds count value ∷ fields) t f h =
     let rest = tags_octets (suc number) more fields t.1 f.1 (omega arith) in
     (omega (arith, f.0.1, t.0), appended_octets (octets count value) (bytes_from (suc number) fields) (spelled_octets count value) rest)
-tags_octets number (allowed ∷ more) (Missing ∷ fields) t f h = tags_octets (suc number) more fields t.1 f.1 (omega arith)
+tags_octets number (allowed ∷ more) (None ∷ fields) t f h = tags_octets (suc number) more fields t.1 f.1 (omega arith)
 
 body_octets : (f : TagFields) → AllFit tag_octets (listed f) → length (tag_bytes f) ≤ most_tagged → Octets (body_bytes f)
 unfolding body_bytes zero_filled tag_bytes

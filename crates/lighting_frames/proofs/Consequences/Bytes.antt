@@ -1,7 +1,7 @@
 -- WHERE THE FIELDS STAND: the kinds and their lengths, the bytes of station, number, time and output, and of
 -- what follows; and refusals 2 to 5.
 --
-use Rattle.std.specs.Prelude.{Some, None}
+use Rattle.std.specs.Prelude.{Some, None, Result, Ok, Err}
 use mathlib.Core.Path.{◌≡◌, refl, ap, ◌∙◌}
 use mathlib.Core.Logic.{◌≢◌}
 use mathlib.Core.Bool.{Bool, true}
@@ -25,18 +25,19 @@ use Rattle.lighting_frames.specs.declared.Kind.TheVariants.{NoKind, ClockKind, C
 use Rattle.lighting_frames.specs.declared.KindRow.{KindRow}
 use Rattle.lighting_outputs.specs.declared.Answer.TheVariants.{Done}
 use Rattle.lighting_outputs.specs.declared.Output.{Output}
-use Rattle.lighting_outputs.specs.declared.Request.{Request}
-use Rattle.lighting_outputs.specs.declared.Request.TheVariants.{Refuse, ToOutput}
+use Rattle.lighting_outputs.specs.Paper.Answers.{Request}
 use Rattle.lighting_outputs.specs.declared.OutputRequest.TheVariants.{Write, Empty, Read}
 use Rattle.lighting_frames.specs.declared.Call.{Call}
 use Rattle.lighting_frames.specs.declared.Frame.{Frame}
-use Rattle.lighting_frames.specs.declared.Frame.TheVariants.{Bad, Clock, Calls}
+use Rattle.lighting_frames.specs.declared.Frame.TheVariants.{Clock, Calls}
 use Rattle.lighting_levels.proofs.Split.{also_both, eq_of, le_of, eqb_hit, eqb_miss, leb_yes, leb_no}
 use Rattle.lighting_outputs.proofs.Rules.Facts.{Slot}
 use Rattle.lighting_frames.proofs.KindTable.{rows_from, each_row}
 use Rattle.lighting_outputs.proofs.Consequences.Alone.{alone}
 use Rattle.lighting_outputs.proofs.Rules.PrioritiesNamed.{priority_yes, NoPriority, priority_no}
 use Rattle.lighting_outputs.specs.Paper.Properties.{property_of, change_of}
+use Rattle.lighting_outputs.specs.declared.Refusal.{Refusal}
+use Rattle.lighting_outputs.specs.declared.Refusal.TheVariants.{UnknownKind, WrongLength, UnknownStation, UnknownOutput, NotWritable, RealOutOfRange}
 
 -- THE TABLE OF KINDS: 01 to 05 and 10 to 1B have these lengths, and no other kind is known
 pub lengths : map kind_length (0x01 ∷ 0x02 ∷ 0x03 ∷ 0x04 ∷ 0x05 ∷ 0x10 ∷ 0x11 ∷ 0x12 ∷ 0x13 ∷ 0x14 ∷ 0x15 ∷ 0x16 ∷ 0x17 ∷ 0x18 ∷ 0x19 ∷ 0x1a ∷ 0x1b ∷ [])
@@ -76,8 +77,8 @@ fits k = each_row (λ (n : ℕ) (row : KindRow). Fits n row.length row.kind) (λ
 
 -- WHAT THE BYTES ASK by the kind k: nothing, unless it is a call's
 abbrev asked_by : (p : Parameters) → Kind → Bytes → Request
-asked_by p NoKind b = Refuse 9
-asked_by p ClockKind b = Refuse 9
+asked_by p NoKind b = Err NotWritable
+asked_by p ClockKind b = Err NotWritable
 asked_by p (CallKind action) b = request_of p action b
 
 abbrev pub asked : (p : Parameters) → ℕ → Bytes → Request
@@ -89,37 +90,37 @@ the_call p b = record { station = byte_at b 1; number = big_endian 4 b 2; time =
 
 -- REFUSALS 2 TO 5, in their order
 module _ (p : Parameters) (c : ℕ) (b : Bytes) where
-  abbrev Parsed : Kind → Frame → Type 0
+  abbrev Parsed : Kind → Result Frame Refusal → Type 0
   Parsed k f = (kind_row (byte_at b 0)).kind ≡ k → Fits (byte_at b 0) (kind_length (byte_at b 0)) k ≡ true → parse_by p c (kind_length (byte_at b 0)) k b ≡ f
 
-  parsed : (f : Frame) → ((k : Kind) → Parsed k f) → parse p c b ≡ f
+  parsed : (f : Result Frame Refusal) → ((k : Kind) → Parsed k f) → parse p c b ≡ f
   unfolding parse
   parsed f h = unfold kind_length in (h (kind_row (byte_at b 0)).kind refl (fits (byte_at b 0)))
 
-  pub two : kind_length (byte_at b 0) ≡ 0 → parse p c b ≡ Bad 2
+  pub two : kind_length (byte_at b 0) ≡ 0 → parse p c b ≡ Err UnknownKind
   unfolding parse_by
-  two e = parsed (Bad 2) by
+  two e = parsed (Err UnknownKind) by
     where
-      by : (k : Kind) → Parsed k (Bad 2)
+      by : (k : Kind) → Parsed k (Err UnknownKind)
       by NoKind q h = refl
       by ClockKind q h = let l : 1 ≤ kind_length (byte_at b 0) = le_of (also_both h).1 in absurd (omega arith)
       by (CallKind action) q h = let l : 1 ≤ kind_length (byte_at b 0) = le_of (also_both h).1 in absurd (omega arith)
 
-  pub three : kind_length (byte_at b 0) ≢ 0 → length b ≢ kind_length (byte_at b 0) → parse p c b ≡ Bad 3
+  pub three : kind_length (byte_at b 0) ≢ 0 → length b ≢ kind_length (byte_at b 0) → parse p c b ≡ Err WrongLength
   unfolding parse_by when◌then◌else◌
-  three known n = parsed (Bad 3) by
+  three known n = parsed (Err WrongLength) by
     where
-      by : (k : Kind) → Parsed k (Bad 3)
+      by : (k : Kind) → Parsed k (Err WrongLength)
       by NoKind q h = absurd (known (eq_of h))
       by ClockKind q h = rw (eqb_miss {a = length b} {b = kind_length (byte_at b 0)} n)
       by (CallKind action) q h = rw (eqb_miss {a = length b} {b = kind_length (byte_at b 0)} n)
 
   module _ (known : kind_length (byte_at b 0) ≢ 0) (sized : length b ≡ kind_length (byte_at b 0)) where
-    pub clock : byte_at b 0 ≡ 1 → parse p c b ≡ Clock (big_endian 6 b 1)
+    pub clock : byte_at b 0 ≡ 1 → parse p c b ≡ Ok (Clock (big_endian 6 b 1))
     unfolding parse_by clock_of when◌then◌else◌
-    clock e = parsed (Clock (big_endian 6 b 1)) by
+    clock e = parsed (Ok (Clock (big_endian 6 b 1))) by
       where
-        by : (k : Kind) → Parsed k (Clock (big_endian 6 b 1))
+        by : (k : Kind) → Parsed k (Ok (Clock (big_endian 6 b 1)))
         by NoKind q h = absurd (known (eq_of h))
         by ClockKind q h = rw (eqb_hit {a = length b} {b = kind_length (byte_at b 0)} sized)
         by (CallKind action) q h = let l : 2 ≤ byte_at b 0 = le_of (also_both h).0 in absurd (omega arith)
@@ -134,44 +135,44 @@ module _ (p : Parameters) (c : ℕ) (b : Bytes) where
           by ClockKind q h = absurd (call (eq_of (also_both h).0))
           by (CallKind action) q h = rw (q, eqb_hit {a = length b} {b = kind_length (byte_at b 0)} sized)
 
-      pub four_station : p.stations ≤ byte_at b 1 → parse p c b ≡ Bad 4
+      pub four_station : p.stations ≤ byte_at b 1 → parse p c b ≡ Err UnknownStation
       unfolding called when◌then◌else◌
       four_station l = calls ∙ rw (leb_no {a = suc (byte_at b 1)} {b = p.stations} (omega arith))
 
-      pub four_number : byte_at b 1 < p.stations → big_endian 4 b 2 ≡ 0 → parse p c b ≡ Bad 4
+      pub four_number : byte_at b 1 < p.stations → big_endian 4 b 2 ≡ 0 → parse p c b ≡ Err UnknownStation
       unfolding called when◌then◌else◌
       four_number l e = calls ∙ rw (leb_yes {a = suc (byte_at b 1)} {b = p.stations} l, eqb_hit {a = big_endian 4 b 2} {b = 0} e)
 
-      pub five : byte_at b 1 < p.stations → big_endian 4 b 2 ≢ 0 → c ≤ byte_at b 12 → parse p c b ≡ Bad 5
+      pub five : byte_at b 1 < p.stations → big_endian 4 b 2 ≢ 0 → c ≤ byte_at b 12 → parse p c b ≡ Err UnknownOutput
       unfolding called when◌then◌else◌
       five l n m =
           calls ∙ rw (leb_yes {a = suc (byte_at b 1)} {b = p.stations} l, eqb_miss {a = big_endian 4 b 2} {b = 0} n, leb_no {a = suc (byte_at b 12)} {b = c} (omega arith))
 
       -- else it is a call, and the request is read off the bytes from 13 on
-      pub call_of_lem : byte_at b 1 < p.stations → big_endian 4 b 2 ≢ 0 → byte_at b 12 < c → parse p c b ≡ Calls (the_call p b)
+      pub call_of_lem : byte_at b 1 < p.stations → big_endian 4 b 2 ≢ 0 → byte_at b 12 < c → parse p c b ≡ Ok (Calls (the_call p b))
       unfolding called when◌then◌else◌
       call_of_lem l n m =
           calls ∙ rw (leb_yes {a = suc (byte_at b 1)} {b = p.stations} l, eqb_miss {a = big_endian 4 b 2} {b = 0} n, leb_yes {a = suc (byte_at b 12)} {b = c} m)
 
 -- byte 13 is the priority, and kind 02's REAL follows it
 module _ (p : Parameters) (b : Bytes) where
-  pub write_slot : (i v : ℕ) → Slot i → byte_at b 13 ≡ suc i → level_of (real (big_endian 4 b 14)) ≡ Some v → asked p 2 b ≡ ToOutput (Write i v)
+  pub write_slot : (i v : ℕ) → Slot i → byte_at b 13 ≡ suc i → level_of (real (big_endian 4 b 14)) ≡ Some v → asked p 2 b ≡ Ok (Write i v)
   unfolding kind_row request_of write_of write_level when◌then◌else◌
   write_slot i v k n e = let z : suc i - 1 ≡ i = omega arith in rw (n, priority_yes i k, e, z)
 
-  pub write_real : (i : ℕ) → Slot i → byte_at b 13 ≡ suc i → level_of (real (big_endian 4 b 14)) ≡ None → asked p 2 b ≡ Refuse 11
+  pub write_real : (i : ℕ) → Slot i → byte_at b 13 ≡ suc i → level_of (real (big_endian 4 b 14)) ≡ None → asked p 2 b ≡ Err RealOutOfRange
   unfolding kind_row request_of write_of write_level when◌then◌else◌
   write_real i k n e = rw (n, priority_yes i k, e)
 
-  pub empty_slot : (i : ℕ) → Slot i → byte_at b 13 ≡ suc i → asked p 3 b ≡ ToOutput (Empty i)
+  pub empty_slot : (i : ℕ) → Slot i → byte_at b 13 ≡ suc i → asked p 3 b ≡ Ok (Empty i)
   unfolding kind_row request_of empty_of when◌then◌else◌
   empty_slot i k n = let z : suc i - 1 ≡ i = omega arith in rw (n, priority_yes i k, z)
 
-  pub write_priority : NoPriority (byte_at b 13) → asked p 2 b ≡ Refuse 10
+  pub write_priority : NoPriority (byte_at b 13) → asked p 2 b ≡ Err BadPriority
   unfolding kind_row request_of write_of when◌then◌else◌
   write_priority h = rw (priority_no (byte_at b 13) h)
 
-  pub empty_priority : NoPriority (byte_at b 13) → asked p 3 b ≡ Refuse 10
+  pub empty_priority : NoPriority (byte_at b 13) → asked p 3 b ≡ Err BadPriority
   unfolding kind_row request_of empty_of when◌then◌else◌
   empty_priority h = rw (priority_no (byte_at b 13) h)
 
@@ -187,7 +188,7 @@ module _ (p : Parameters) (b : Bytes) where
   unfolding acted served done
   empties_slot t o i k n = rw (empty_slot i k n)
 
-pub read_asked : (p : Parameters) (b : Bytes) → asked p 5 b ≡ ToOutput (Read (property_of (byte_at b 13)))
+pub read_asked : (p : Parameters) (b : Bytes) → asked p 5 b ≡ Ok (Read (property_of (byte_at b 13)))
 unfolding kind_row request_of when◌then◌else◌
 read_asked p b = refl
 

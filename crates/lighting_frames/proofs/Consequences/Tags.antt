@@ -1,6 +1,6 @@
 -- §1, AS AN ENGINEER READS IT: what makes a body in tags 14, for every body; a tagged duration of FFFFFFFF;
 -- property 0F; that every plain command has a form in tags, of kind 1B, and that it is read alike.
-use Rattle.std.specs.Prelude.{Option, Some, None}
+use Rattle.std.specs.Prelude.{Option, Some, None, Ok, Err}
 use Rattle.lighting_levels.specs.Paper.Choice.{when◌then◌else◌}
 use mathlib.Core.Path.{◌≡◌, refl, sym, ap, ◌∙◌}
 use mathlib.Core.Logic.{◌≢◌}
@@ -22,7 +22,7 @@ use Rattle.lighting_outputs.specs.Paper.Commands.{commanded_from, commanded}
 use Rattle.lighting_outputs.specs.Paper.Properties.{read_property}
 use Rattle.lighting_outputs.specs.Paper.Acting.{done, acted, served}
 use Rattle.lighting_frames.specs.Paper.Kinds.{kind_row, kind_length}
-use Rattle.lighting_frames.specs.Paper.Tags.{context_tag, OctetRange, one_octet, tag_octets, listed, field_size, sizes, field_in, fields_from, field_bytes, bytes_from, tag_bytes, tags_of, command_tags, zero_filled, body_bytes, most_tagged, length_of, body_fields, zero_beyond, holds_at_most, well_tagged, read_body}
+use Rattle.lighting_frames.specs.Paper.Tags.{context_tag, OctetRange, one_octet, tag_octets, listed, field_size, sizes, field_in, fields_from, field_bytes, bytes_from, tag_bytes, tags_of, command_tags, zero_filled, body_bytes, most_tagged, length_of, body_fields, zero_beyond, holds_at_most, well_tagged, read_body, holds, reads}
 use Rattle.lighting_frames.specs.Paper.Frames.{Bytes, Octets, tagged_request, request_of, parse}
 use Rattle.lighting_outputs.specs.Paper.Requests.{fields_refusal, command_lasting, command_with_duration, command_request_by, command_of, plain_duration, command_request}
 use Rattle.lighting_frames.specs.Paper.InTags.{plain_tags, framed, in_tags, sent}
@@ -34,12 +34,9 @@ use Rattle.lighting_frames.specs.declared.Kind.TheVariants.{CallKind}
 use Rattle.lighting_outputs.specs.declared.Operation.{Operation}
 use Rattle.lighting_outputs.specs.declared.Output.{Output}
 use Rattle.lighting_outputs.specs.declared.Property.TheVariants.{LastOperation}
-use Rattle.lighting_outputs.specs.declared.Request.TheVariants.{Refuse, ToOutput}
 use Rattle.lighting_outputs.specs.declared.OutputRequest.TheVariants.{Commands}
-use Rattle.lighting_frames.specs.declared.TagField.{TagField}
+use Rattle.lighting_frames.specs.declared.TagContent.{TagContent}
 use Rattle.lighting_frames.specs.declared.TagFields.{TagFields}
-use Rattle.lighting_frames.specs.declared.TagField.TheVariants.{Holds, Missing}
-use Rattle.lighting_frames.specs.declared.TaggedReading.TheVariants.{Unreadable, Reads}
 use Rattle.lighting_outputs.specs.Paper.Startable.{startable}
 use Rattle.lighting_outputs.proofs.Rules.Startable.{startable_of}
 use Rattle.lighting_levels.proofs.Split.{by_bool, eqb_hit, eqb_miss, eq_of, leb_yes, leb_no}
@@ -54,22 +51,23 @@ use Rattle.lighting_frames.proofs.Tagging.Only.{only_written}
 use Rattle.lighting_frames.proofs.Tagging.PlainInTags.{SameIf, same}
 use Rattle.lighting_frames.proofs.Tagging.InTags.{tagged_asks, sent_as, parse_sent}
 use Rattle.lighting_outputs.proofs.Consequences.Alone.{alone}
+use Rattle.lighting_outputs.specs.declared.Refusal.TheVariants.{WholeOutOfRange, BadTags}
 
 -- A BODY THAT IS NOT WELL TAGGED is 14, whatever else is wrong with it
 module _ (body : Bytes) where
-  unless_tagged : (WellTagged body → ⊥) → read_body body ≡ Unreadable 14
+  unless_tagged : (WellTagged body → ⊥) → read_body body ≡ Err BadTags
   unfolding read_body when◌then◌else◌
   unless_tagged n = by_bool (well_tagged body) (λ e. absurd (n (well_tagged_lem body e))) (λ e. rw e)
 
   -- 'a length L from 2 to 17'
-  pub length_low : byte_at body 0 < 2 → read_body body ≡ Unreadable 14
+  pub length_low : byte_at body 0 < 2 → read_body body ≡ Err BadTags
   length_low h = unless_tagged (λ w. omega (arith, w.low))
 
-  pub length_high : 17 < byte_at body 0 → read_body body ≡ Unreadable 14
+  pub length_high : 17 < byte_at body 0 → read_body body ≡ Err BadTags
   length_high h = unless_tagged (λ w. omega (arith, w.high))
 
   -- 'those beyond L zero'
-  pub not_zero_beyond : (i : ℕ) → byte_at body 0 < i → i ≤ 17 → byte_at body i ≢ 0 → read_body body ≡ Unreadable 14
+  pub not_zero_beyond : (i : ℕ) → byte_at body 0 < i → i ≤ 17 → byte_at body i ≢ 0 → read_body body ≡ Err BadTags
   not_zero_beyond i l h n = unless_tagged (λ w. n (zero w))
     where
       zero : WellTagged body → byte_at body i ≡ 0
@@ -88,8 +86,8 @@ Few (allowed ∷ more) = (1 ≤ allowed.least) × (allowed.most ≤ 4) × Few mo
 few : Few tag_octets
 few = (omega arith, omega arith, (omega arith, omega arith, (omega arith, omega arith, (omega arith, omega arith, (omega arith, omega arith, (omega arith, omega arith, tt))))))
 
-not_taken : {allowed : OctetRange} {number : ℕ} {left : Bytes} {field : TagField} → number < 6 → 1 ≤ allowed.least → allowed.most ≤ 4 → NoTag (byte_at left 0)
-    → Read allowed number left field → field ≡ Missing
+not_taken : {allowed : OctetRange} {number : ℕ} {left : Bytes} {field : Option TagContent} → number < 6 → 1 ≤ allowed.least → allowed.most ≤ 4 → NoTag (byte_at left 0)
+    → Read allowed number left field → field ≡ None
 not_taken {number = number} h l m n (held count low high tag size) = absurd (n number count h (omega arith) (omega arith) (sym tag))
 not_taken h l m n nothing = refl
 
@@ -106,48 +104,48 @@ content_byte : (body : Bytes) (i : ℕ) → i < byte_at body 0 → byte_at (take
 unfolding byte_at
 content_byte body i h = let z : 1 + i ≡ suc i = omega arith in get_or-take (get_or body 0 0) (drop 1 body) i 0 h ∙ get_or-drop 1 body i 0 ∙ ap (λ (n : ℕ). get_or body n 0) z
 
-pub first_no_tag : (body : Bytes) → NoTag (byte_at body 1) → read_body body ≡ Unreadable 14
+pub first_no_tag : (body : Bytes) → NoTag (byte_at body 1) → read_body body ≡ Err BadTags
 first_no_tag body n = unless_tagged body (λ w. omega (arith, w.low, w.sized, None w))
   where
     None : WellTagged body → sizes (listed (body_fields body)) ≡ 0
     None w = rw (named_listed body) (none_taken 0 tag_octets (take (length_of body) (drop 1 body)) (omega arith) few (rw (content_byte body 0 (omega (arith, w.low))) n))
 
 -- an application tag (bit 3 clear), a zero byte among them; and a tag number above 5
-pub application_tag : (body : Bytes) → byte_at body 1 % 16 < 8 → read_body body ≡ Unreadable 14
+pub application_tag : (body : Bytes) → byte_at body 1 % 16 < 8 → read_body body ≡ Err BadTags
 application_tag body h = first_no_tag body (λ number count a b c e. omega (arith, ap (λ (x : ℕ). x % 16) e))
 
-pub number_above_five : (body : Bytes) → 0x68 ≤ byte_at body 1 → read_body body ≡ Unreadable 14
+pub number_above_five : (body : Bytes) → 0x68 ≤ byte_at body 1 → read_body body ≡ Err BadTags
 number_above_five body h = first_no_tag body (λ number count a b c e. omega arith)
 
 -- an operation above 10, whatever follows
 module _ (body : Bytes) (eighteen : length body ≡ 18) (tag : byte_at body 1 ≡ 0x09) where
-  operation_field : WellTagged body → field_in 0 one_octet (take (length_of body) (drop 1 body)) ≡ Holds 1 (byte_at body 2)
+  operation_field : WellTagged body → field_in 0 one_octet (take (length_of body) (drop 1 body)) ≡ holds 1 (byte_at body 2)
   unfolding field_in within when◌then◌else◌
   operation_field w =
       let left = take (length_of body) (drop 1 body) in
       let size : 2 ≤ length left = omega (arith, w.low, w.high, length-take (length_of body) (drop 1 body), length-drop 1 body) in
       rw (content_byte body 0 (omega (arith, w.low)), tag, leb_yes {a = 2} {b = length left} size)
-      (ap (Holds 1) (single left 1 ∙ content_byte body 1 (omega (arith, w.low))))
+      (ap (holds 1) (single left 1 ∙ content_byte body 1 (omega (arith, w.low))))
 
   unknown : WellTagged body → 10 < byte_at body 2 → holds_at_most 10 (body_fields body).operation ≡ false
   unfolding body_fields fields_from holds_at_most
   unknown w h = rw (operation_field w) (leb_no h)
 
-  pub operation_above_ten : 10 < byte_at body 2 → read_body body ≡ Unreadable 14
+  pub operation_above_ten : 10 < byte_at body 2 → read_body body ≡ Err BadTags
   operation_above_ten h = unless_tagged body (λ w. false≢true (sym (unknown w h) ∙ w.known))
 
 -- A TAGGED DURATION: FFFFFFFF meets 12; missing is what FFFFFFFF is in the plain kind; any other is the plain
 -- kind's
-pub duration_all_ones : (p : Parameters) → startable p ≡ true → (o : Operation) → fields_refusal p (fields_of o) ≡ 0 → tagged_request p (Reads o (Some 0xffff_ffff)) ≡ Refuse 12
+pub duration_all_ones : (p : Parameters) → startable p ≡ true → (o : Operation) → fields_refusal p (fields_of o) ≡ 0 → tagged_request p (reads o (Some 0xffff_ffff)) ≡ Err WholeOutOfRange
 unfolding tagged_request command_of command_request_by command_with_duration command_lasting within when◌then◌else◌
 duration_all_ones p allowed o e =
     rw (e, leb_no {a = 0xffff_ffff} {b = p.duration} (omega (arith, (startable_of p allowed).duration)))
 
-pub duration_missing : (p : Parameters) (o : Operation) → tagged_request p (Reads o None) ≡ command_request p o 0xffff_ffff
+pub duration_missing : (p : Parameters) (o : Operation) → tagged_request p (reads o None) ≡ command_request p o 0xffff_ffff
 unfolding tagged_request command_request plain_duration when◌then◌else◌
 duration_missing p o = refl
 
-pub duration_there : (p : Parameters) (o : Operation) (d : ℕ) → d ≢ 0xffff_ffff → tagged_request p (Reads o (Some d)) ≡ command_request p o d
+pub duration_there : (p : Parameters) (o : Operation) (d : ℕ) → d ≢ 0xffff_ffff → tagged_request p (reads o (Some d)) ≡ command_request p o d
 unfolding tagged_request command_request plain_duration when◌then◌else◌
 duration_there p o d n = rw (eqb_miss {a = d} {b = 0xffff_ffff} n)
 
@@ -156,7 +154,7 @@ second_byte : (k : Command) → byte_at (body_bytes (command_tags k)) 2 ≡ oper
 unfolding body_bytes zero_filled tag_bytes bytes_from field_bytes octets command_tags tags_of byte_at
 second_byte k = rw (div-one (operation_number k.operation)) (mod-eq_of_lt (omega (arith, number_most k.operation)))
 
-module _ (p : Parameters) (b : Bytes) (o : Octets b) (size : length b ≡ 31) (k : Command) (h : request_of p CommandsTagged b ≡ ToOutput (Commands k)) where
+module _ (p : Parameters) (b : Bytes) (o : Octets b) (size : length b ≡ 31) (k : Command) (h : request_of p CommandsTagged b ≡ Ok (Commands k)) where
   pub tagged_number : operation_number k.operation ≡ byte_at b 15
   tagged_number =
       sym (second_byte k)
@@ -217,6 +215,6 @@ read_alike p c b o = parse_sent p c b (sent_as (λ (x : Bytes). true) b o)
 -- THE RANGES of a command are judged alike in whatever form it came, plain or in tags
 pub both_forms : (p : Parameters) (operation : Operation) (d : ℕ) (duration : Option ℕ)
     → (command_request p operation d ≡ command_of p operation (plain_duration d))
-    × (tagged_request p (Reads operation duration) ≡ command_of p operation duration)
+    × (tagged_request p (reads operation duration) ≡ command_of p operation duration)
 unfolding command_request tagged_request
 both_forms p operation d duration = (refl, refl)

@@ -10,19 +10,17 @@ use lib.Dec.{eqb}
 use lib.Ieee.{Float}
 use Rattle.lighting_levels.specs.Paper.Level.{real, bits}
 use Rattle.lighting_outputs.specs.Paper.Operations.{operation_number, fields_of}
-use Rattle.lighting_frames.specs.Paper.Tags.{fewest_octets, real_octets, whole_octets, tag_octets, listed, field_size, sizes, real_tag, whole_tag, tags_of, most_tagged, body_bytes, holds_at_most, well_tagged, held_by, operation_of, time_of, both_or_neither, fewest, own_tags, read_fields, read_body}
+use Rattle.lighting_frames.specs.Paper.Tags.{fewest_octets, real_octets, whole_octets, tag_octets, listed, field_size, sizes, real_tag, whole_tag, tags_of, most_tagged, body_bytes, holds_at_most, well_tagged, held_by, operation_of, time_of, both_or_neither, fewest, own_tags, read_fields, read_body, holds, reads}
 use Rattle.lighting_outputs.specs.Paper.Requests.{plain_duration}
 use Rattle.lighting_outputs.specs.declared.Operation.{Operation}
 use Rattle.lighting_outputs.specs.declared.Operation.TheVariants.{Stop, FadeTo, FadeToOver, RampTo, RampToAtRate, StepUp, StepDown, StepUpBy, StepDownBy, Goto, Relinquish}
-use Rattle.lighting_frames.specs.declared.TagField.{TagField}
-use Rattle.lighting_frames.specs.declared.TagField.TheVariants.{Holds, Missing}
-use Rattle.lighting_frames.specs.declared.TaggedReading.TheVariants.{Reads}
+use Rattle.lighting_frames.specs.declared.TagContent.{TagContent}
 use Rattle.lighting_levels.proofs.Split.{also_yes, by_bool, by_lt, leb_yes, eqb_hit}
 use Rattle.lighting_frames.proofs.Tagging.Fields.{Fits, AllFit}
 use Rattle.lighting_frames.proofs.Tagging.Bodies.{fields_read, sizes_written, well_written}
 
 -- A WHOLE NUMBER in the fewest octets, and read back
-pub fewest_fit : (v : ℕ) → v < 2 ^ 32 → Fits whole_octets (Holds (fewest_octets v) v)
+pub fewest_fit : (v : ℕ) → v < 2 ^ 32 → Fits whole_octets (holds (fewest_octets v) v)
 unfolding fewest_octets when◌then◌else◌
 fewest_fit v h =
     by_lt v 0x100 (λ l e. rw e (omega arith, omega arith, l)) (λ l e. rw e
@@ -116,10 +114,10 @@ number_most (StepDownBy x) = omega arith
 number_most (Goto x) = omega arith
 number_most Relinquish = omega arith
 
-both_same : (f : TagField) → both_or_neither f f ≡ true
+both_same : (f : Option TagContent) → both_or_neither f f ≡ true
 unfolding both_or_neither
-both_same (Holds count value) = refl
-both_same Missing = refl
+both_same (Some content) = refl
+both_same None = refl
 
 -- its own fields, and in the fewest octets
 own_written : (o : Operation) (d : Option ℕ) → own_tags (tags_of o d) (tags_of o d) ≡ true
@@ -158,7 +156,7 @@ well_made o d e w =
     let n = sizes_written (tags_of o d) in
     well_written (tags_of o d) (tags_fit o d e w) (omega arith) (omega arith) (operation_known o d)
 
-fields_made : (o : Operation) (d : Option ℕ) → ExactOperation o → read_fields (tags_of o d) ≡ Reads o d
+fields_made : (o : Operation) (d : Option ℕ) → ExactOperation o → read_fields (tags_of o d) ≡ reads o d
 unfolding read_fields when◌then◌else◌
 fields_made o d e = rw (operation_read o d e, duration_read, own_written o d)
   where
@@ -166,6 +164,6 @@ fields_made o d e = rw (operation_read o d e, duration_read, own_written o d)
     duration_read = unfold tags_of in (whole_read d)
 
 -- READING WHAT THE WRITER MADE gives back the operation and its duration
-pub reads_written : (o : Operation) (d : Option ℕ) → ExactOperation o → Word d → read_body (body_bytes (tags_of o d)) ≡ Reads o d
+pub reads_written : (o : Operation) (d : Option ℕ) → ExactOperation o → Word d → read_body (body_bytes (tags_of o d)) ≡ reads o d
 unfolding read_body when◌then◌else◌
 reads_written o d e w = rw (well_made o d e w, fields_read (tags_of o d) (tags_fit o d e w)) (fields_made o d e)

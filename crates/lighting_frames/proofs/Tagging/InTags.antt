@@ -1,5 +1,5 @@
 -- IT ACTS AS THE PLAIN KIND DOES (§1), frame by frame and in lists.
-use Rattle.std.specs.Prelude.{Option, Some, None}
+use Rattle.std.specs.Prelude.{Option, Some, None, Err}
 use Rattle.lighting_levels.specs.Paper.Choice.{when◌then◌else◌}
 use mathlib.Core.Path.{◌≡◌, refl, sym, ap, ap₂, ◌∙◌}
 use mathlib.Core.Logic.{◌≢◌}
@@ -12,7 +12,7 @@ use lib.Seq.{drop_at, take_at, drop-cons, drop-drop, get_or-take, get_or-drop}
 use Rattle.lighting_outputs.specs.declared.Parameters.{Parameters}
 use Rattle.lighting_levels.specs.Paper.Field.{byte_at, big_endian}
 use Rattle.lighting_frames.specs.Paper.Kinds.{kind_row, kind_length}
-use Rattle.lighting_frames.specs.Paper.Tags.{held_by, tag_bytes, most_tagged, zero_filled, body_bytes, body_fields, operation_of, time_of, read_fields, read_body}
+use Rattle.lighting_frames.specs.Paper.Tags.{held_by, tag_bytes, most_tagged, zero_filled, body_bytes, body_fields, operation_of, time_of, read_fields, read_body, reads}
 use Rattle.lighting_frames.specs.Paper.Frames.{Bytes, Octets, tagged_request, request_of, call_of, called, parse_by, parse}
 use Rattle.lighting_frames.specs.Paper.Copies.{same_bytes}
 use Rattle.lighting_frames.specs.Paper.InTags.{plain_tags, framed, framed_by, in_tags, sent}
@@ -21,7 +21,6 @@ use Rattle.lighting_frames.specs.declared.Action.TheVariants.{CommandsTagged}
 use Rattle.lighting_frames.specs.declared.Kind.{Kind}
 use Rattle.lighting_frames.specs.declared.Kind.TheVariants.{NoKind, ClockKind, CallKind}
 use Rattle.lighting_frames.specs.declared.TagFields.{TagFields}
-use Rattle.lighting_frames.specs.declared.TaggedReading.TheVariants.{Unreadable, Reads}
 use Rattle.lighting_levels.proofs.Split.{by_bool, by_eq, also_both, also_yes, eqb_hit, eq_of}
 use Rattle.lighting_frames.proofs.KindTable.{kind_byte}
 use Rattle.lighting_frames.proofs.Tagging.Bodies.{sizes_written, fields_read, well_written}
@@ -73,7 +72,7 @@ module _ {action : Action} (b : Bytes) (f : TagFields) (s : Same action b f) whe
       let w = well_written f s.fit (omega (arith, s.low)) (omega (arith, s.high)) s.known in
       rw (w, fields_read f s.fit) (s.asks p)
 
-  body_reads : read_body (body_bytes f) ≡ Reads (operation_of f) (time_of f.duration)
+  body_reads : read_body (body_bytes f) ≡ reads (operation_of f) (time_of f.duration)
   unfolding read_body read_fields when◌then◌else◌
   body_reads =
       let n = sizes_written f in
@@ -176,7 +175,7 @@ apart b b' {a} {a'} s s' n n' g =
 pub data NeverMade (b : Bytes) : Type 0 where
   other_kind : byte_at b 0 ≢ 0x1b → NeverMade b
   other_length : length b ≢ 31 → NeverMade b
-  unreadable : {refusal : ℕ} → read_body (drop 13 b) ≡ Unreadable refusal → NeverMade b
+  unreadable : {refusal : ℕ} → read_body (drop 13 b) ≡ Err refusal → NeverMade b
 
 never_of : (b b' : Bytes) {a : Bytes} → SentAs b a → NeverMade b' → a ≡ b' → b ≡ b'
 unfolding byte_at

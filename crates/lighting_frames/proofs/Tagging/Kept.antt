@@ -1,6 +1,6 @@
 -- EVERY COMMAND THAT THE PANEL KEEPS (§1): reading what the writer makes of it gives it back, for every
 -- command that a string of bytes asks for, in whatever form it came.
-use Rattle.std.specs.Prelude.{Option, Some, None, Float}
+use Rattle.std.specs.Prelude.{Option, Some, None, Float, Ok, Err}
 use Rattle.lighting_levels.specs.Paper.Choice.{when◌then◌else◌}
 use mathlib.Core.Path.{◌≡◌, refl, ap}
 use mathlib.Core.Bool.{true}
@@ -14,7 +14,7 @@ use Rattle.lighting_levels.specs.Paper.Field.{big_endian}
 use Rattle.lighting_outputs.specs.Paper.Rows.{row_of, within, is_amount, is_priority}
 use Rattle.lighting_outputs.specs.Paper.Operations.{fields_of}
 use Rattle.lighting_outputs.specs.Paper.Properties.{change_to, change_by, change_of}
-use Rattle.lighting_frames.specs.Paper.Tags.{real_octets, whole_octets, tag_octets, listed, tags_of, command_tags, tagged_body, body_bytes, held_by, operation_of, time_of, own_tags, body_fields, holds_at_most, well_tagged, read_fields, read_body}
+use Rattle.lighting_frames.specs.Paper.Tags.{real_octets, whole_octets, tag_octets, listed, tags_of, command_tags, tagged_body, body_bytes, held_by, operation_of, time_of, own_tags, body_fields, holds_at_most, well_tagged, read_fields, read_body, holds}
 use Rattle.lighting_frames.specs.Paper.Frames.{Bytes, Octets, tagged_request, request_of, Kept, asked}
 use Rattle.lighting_outputs.specs.Paper.Requests.{level_field_refusal, amount_field_refusal, fields_refusal, command_of, plain_duration, command_request, write_level, write_of, empty_of}
 use Rattle.lighting_frames.specs.declared.Action.{Action}
@@ -25,11 +25,9 @@ use Rattle.lighting_outputs.specs.declared.Operation.TheVariants.{Stop, FadeTo, 
 use Rattle.lighting_outputs.specs.declared.Property.{Property}
 use Rattle.lighting_outputs.specs.declared.Range.{Range}
 use Rattle.lighting_outputs.specs.declared.Range.TheVariants.{Percent, Limit, Amount, Whole, Priority, ReadOnly}
-use Rattle.lighting_frames.specs.declared.TagField.{TagField}
-use Rattle.lighting_frames.specs.declared.TagField.TheVariants.{Holds, Missing}
+use Rattle.lighting_frames.specs.declared.TagContent.{TagContent}
 use Rattle.lighting_frames.specs.declared.TagFields.{TagFields}
-use Rattle.lighting_outputs.specs.declared.Request.{Request}
-use Rattle.lighting_outputs.specs.declared.Request.TheVariants.{Refuse, ToOutput}
+use Rattle.lighting_outputs.specs.Paper.Answers.{Request}
 use Rattle.lighting_outputs.specs.declared.OutputRequest.TheVariants.{Read, Commands}
 use Rattle.lighting_levels.proofs.Split.{by_bool}
 use Rattle.lighting_frames.proofs.Octets.{dropped_octets, word}
@@ -72,17 +70,17 @@ exact_operation p o b r =
 
 -- WHAT A REQUEST ASKS: a command so brought, or none
 abbrev AsksNoCommand : Request → Type 0
-AsksNoCommand r = (k : Command) → r ≡ ToOutput (Commands k) → ◌≡◌ {A = ℕ} 0 1
+AsksNoCommand r = (k : Command) → r ≡ Ok (Commands k) → ◌≡◌ {A = ℕ} 0 1
 
 data Asks (p : Parameters) : Request → Type 0 where
   command : (o : Operation) (duration : Option ℕ) → Brought o → Word duration → Asks p (command_of p o duration)
   nothing : {r : Request} → AsksNoCommand r → Asks p r
 
 -- kinds 02 to 05 ask for none, and neither does what is refused
-refused_none : (r : ℕ) → AsksNoCommand (Refuse r)
+refused_none : (r : ℕ) → AsksNoCommand (Err r)
 refused_none r = λ k h. cc
 
-reading_none : (n : Property) → AsksNoCommand (ToOutput (Read n))
+reading_none : (n : Property) → AsksNoCommand (Ok (Read n))
 reading_none n = λ k h. cc
 
 level_none : (i : ℕ) (l : Option ℕ) → AsksNoCommand (write_level i l)
@@ -131,10 +129,10 @@ timed : (t : Option ℕ) (v : ℕ) → v < 2 ^ 32 → IsTime v t → Word t
 timed (Some w) v h e = rw e h
 timed None v h e = tt
 
-time_word_lem : (f : TagField) → Fits whole_octets f → Word (time_of f)
+time_word_lem : (f : Option TagContent) → Fits whole_octets f → Word (time_of f)
 unfolding time_of held_by
-time_word_lem (Holds count value) h = held_word whole_octets (Holds count value) (omega arith) h
-time_word_lem Missing h = tt
+time_word_lem (Some content) h = held_word whole_octets (holds content.count content.value) (omega arith) h
+time_word_lem None h = tt
 
 brought : (f : TagFields) → AllFit tag_octets (listed f) → holds_at_most 10 f.operation ≡ true → Brought (operation_of f)
 brought f fit known =
@@ -189,12 +187,12 @@ tags_taken : (p : Parameters) (o : Operation) (duration : Option ℕ) (k : Comma
 unfolding command_tags
 tags_taken p o duration k t = rw (t.operation, t.lasting)
 
-again : (p : Parameters) (r : Request) (k : Command) → Asks p r → r ≡ ToOutput (Commands k) → tagged_request p (read_body (body_bytes (command_tags k))) ≡ ToOutput (Commands k)
+again : (p : Parameters) (r : Request) (k : Command) → Asks p r → r ≡ Ok (Commands k) → tagged_request p (read_body (body_bytes (command_tags k))) ≡ Ok (Commands k)
 unfolding tagged_request
 again p r k (command o duration brought word) h =
     let t = command_taken p o duration k h in
     rw (tags_taken p o duration k t, reads_written o duration (exact_operation p o brought t.ranges) word) h
 again p r k (nothing never) h = let z = never k h in absurd (omega arith)
 
-pub gives_back : (p : Parameters) (k : Command) → Kept p k → tagged_request p (read_body (body_bytes (command_tags k))) ≡ ToOutput (Commands k)
+pub gives_back : (p : Parameters) (k : Command) → Kept p k → tagged_request p (read_body (body_bytes (command_tags k))) ≡ Ok (Commands k)
 gives_back p k (asked action b o h) = again p (request_of p action b) k (asks p action b o) h

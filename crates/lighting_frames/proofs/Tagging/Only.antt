@@ -1,6 +1,6 @@
 -- NO OTHER BYTES: whatever 18 bytes ask for a command in tags are the ones that the writer makes of it (§1).
 -- And what is asked is given back: so each command that the panel keeps has one form in tags.
-use Rattle.std.specs.Prelude.{Option, Some, None}
+use Rattle.std.specs.Prelude.{Option, Some, None, Ok}
 use Rattle.lighting_levels.specs.Paper.Choice.{when◌then◌else◌}
 use mathlib.Core.Path.{◌≡◌, refl, sym, ap, ap₂, ◌∙◌}
 use mathlib.Core.Bool.{true, false≢true}
@@ -13,16 +13,14 @@ use lib.ListN.{length, get_or}
 use Rattle.lighting_outputs.specs.declared.Parameters.{Parameters}
 use Rattle.lighting_levels.specs.Paper.Level.{real, bits}
 use Rattle.lighting_outputs.specs.Paper.Operations.{operation_number, fields_of}
-use Rattle.lighting_frames.specs.Paper.Tags.{OctetRange, one_octet, real_octets, tag_octets, listed, real_tag, whole_tag, tags_of, command_tags, body_bytes, most_tagged, holds_at_most, well_tagged, held_by, operations, operation_of, time_of, both_or_neither, fewest, own_tags, body_fields, read_fields, read_body}
+use Rattle.lighting_frames.specs.Paper.Tags.{OctetRange, one_octet, real_octets, tag_octets, listed, real_tag, whole_tag, tags_of, command_tags, body_bytes, most_tagged, holds_at_most, well_tagged, held_by, operations, operation_of, time_of, both_or_neither, fewest, own_tags, body_fields, read_fields, read_body, holds}
 use Rattle.lighting_frames.specs.Paper.Frames.{Bytes, Octets, tagged_request}
 use Rattle.lighting_outputs.specs.Paper.Requests.{level_field_refusal, amount_field_refusal, fields_refusal}
 use Rattle.lighting_outputs.specs.declared.Command.{Command}
 use Rattle.lighting_outputs.specs.declared.Operation.{Operation}
 use Rattle.lighting_outputs.specs.declared.Operation.TheVariants.{Stop}
-use Rattle.lighting_frames.specs.declared.TagField.{TagField}
-use Rattle.lighting_frames.specs.declared.TagField.TheVariants.{Holds, Missing}
+use Rattle.lighting_frames.specs.declared.TagContent.{TagContent}
 use Rattle.lighting_frames.specs.declared.TagFields.{TagFields}
-use Rattle.lighting_outputs.specs.declared.Request.TheVariants.{ToOutput}
 use Rattle.lighting_outputs.specs.declared.OutputRequest.TheVariants.{Commands}
 use Rattle.lighting_levels.proofs.Split.{also_both, by_bool, eq_of, le_of}
 use Rattle.lighting_outputs.proofs.Patterns.{level_field_kept, amount_field_kept}
@@ -121,41 +119,41 @@ amount_spelled : (x : Option Float) (v : ℕ) → v < 2 ^ 32 → IsReal (real v)
 amount_spelled (Some x) v h e r = rw e (amount_field_kept v h (rw e at r)).written
 amount_spelled None v h e r = tt
 
-pub held_word : (allowed : OctetRange) (f : TagField) → allowed.most ≤ 4 → Fits allowed f → held_by f < 2 ^ 32
+pub held_word : (allowed : OctetRange) (f : Option TagContent) → allowed.most ≤ 4 → Fits allowed f → held_by f < 2 ^ 32
 unfolding held_by
-held_word allowed (Holds count value) m h =
-    omega (arith, h.2, pow-le-pow_right {n = 256} (omega arith) {i = count} {j = 4} (omega (arith, h.1)))
-held_word allowed Missing m h = omega arith
+held_word allowed (Some content) m h =
+    omega (arith, h.2, pow-le-pow_right {n = 256} (omega arith) {i = content.count} {j = 4} (omega (arith, h.1)))
+held_word allowed None m h = omega arith
 
-real_same : (x : Option Float) (f : TagField) → Fits real_octets f → Spelled x (held_by f) → both_or_neither (real_tag x) f ≡ true → real_tag x ≡ f
+real_same : (x : Option Float) (f : Option TagContent) → Fits real_octets f → Spelled x (held_by f) → both_or_neither (real_tag x) f ≡ true → real_tag x ≡ f
 unfolding real_tag both_or_neither held_by
-real_same (Some x) (Holds count value) h s b = ap₂ Holds (omega (arith, h.0, h.1)) s
-real_same (Some x) Missing h s b = absurd (false≢true b)
-real_same None (Holds count value) h s b = absurd (false≢true b)
-real_same None Missing h s b = refl
+real_same (Some x) (Some content) h s b = ap₂ holds (omega (arith, h.0, h.1)) s
+real_same (Some x) None h s b = absurd (false≢true b)
+real_same None (Some content) h s b = absurd (false≢true b)
+real_same None None h s b = refl
 
-pub time_same : (t : Option ℕ) (f : TagField) → IsTime (held_by f) t → fewest f ≡ true → both_or_neither (whole_tag t) f ≡ true → whole_tag t ≡ f
+pub time_same : (t : Option ℕ) (f : Option TagContent) → IsTime (held_by f) t → fewest f ≡ true → both_or_neither (whole_tag t) f ≡ true → whole_tag t ≡ f
 unfolding whole_tag both_or_neither held_by fewest
-time_same (Some v) (Holds count value) e q b = rw e (ap (λ (n : ℕ). Holds n value) (sym (eq_of q)))
-time_same (Some v) Missing e q b = absurd (false≢true b)
-time_same None (Holds count value) e q b = absurd (false≢true b)
-time_same None Missing e q b = refl
+time_same (Some v) (Some content) e q b = rw e (ap (λ (n : ℕ). holds n content.value) (sym (eq_of q)))
+time_same (Some v) None e q b = absurd (false≢true b)
+time_same None (Some content) e q b = absurd (false≢true b)
+time_same None None e q b = refl
 
-duration_same : (f : TagField) → fewest f ≡ true → whole_tag (time_of f) ≡ f
+duration_same : (f : Option TagContent) → fewest f ≡ true → whole_tag (time_of f) ≡ f
 unfolding whole_tag time_of fewest
-duration_same (Holds count value) q = ap (λ (n : ℕ). Holds n value) (sym (eq_of q))
-duration_same Missing q = refl
+duration_same (Some content) q = ap (λ (n : ℕ). holds n content.value) (sym (eq_of q))
+duration_same None q = refl
 
-number_same : (n : ℕ) (f : TagField) → n ≡ held_by f → Fits one_octet f → both_or_neither (Holds 1 n) f ≡ true → Holds 1 n ≡ f
+number_same : (n : ℕ) (f : Option TagContent) → n ≡ held_by f → Fits one_octet f → both_or_neither (holds 1 n) f ≡ true → holds 1 n ≡ f
 unfolding both_or_neither held_by
-number_same n (Holds count value) e h b = ap₂ Holds (omega (arith, h.0, h.1)) e
-number_same n Missing e h b = absurd (false≢true b)
+number_same n (Some content) e h b = ap₂ holds (omega (arith, h.0, h.1)) e
+number_same n None e h b = absurd (false≢true b)
 
 -- so the fields are those that the writer would write for what was read
-pub at_most : (f : TagField) → holds_at_most 10 f ≡ true → held_by f ≤ 10
+pub at_most : (f : Option TagContent) → holds_at_most 10 f ≡ true → held_by f ≤ 10
 unfolding holds_at_most held_by
-at_most (Holds count value) h = le_of h
-at_most Missing h = omega arith
+at_most (Some content) h = le_of h
+at_most None h = omega arith
 
 pub tags_same : (p : Parameters) (f : TagFields) → AllFit tag_octets (listed f) → holds_at_most 10 f.operation ≡ true → own_tags (tags_of (operation_of f) (time_of f.duration)) f ≡ true
     → fields_refusal p (fields_of (operation_of f)) ≡ 0 → tags_of (operation_of f) (time_of f.duration) ≡ f
@@ -180,13 +178,13 @@ tags_same p f fit known own ranges =
     (time_same (fields_of (operation_of f)).fade f.fade o.fade g.0 e.0)
     (duration_same f.duration g.1)
   where
-    same : {a b c d e g : TagField} → a ≡ f.operation → b ≡ f.level → c ≡ f.rate → d ≡ f.step → e ≡ f.fade → g ≡ f.duration
+    same : {a b c d e g : Option TagContent} → a ≡ f.operation → b ≡ f.level → c ≡ f.rate → d ≡ f.step → e ≡ f.fade → g ≡ f.duration
         → record { operation = a; level = b; rate = c; step = d; fade = e; duration = g } ≡ f
     same z' q r s t u = rw (z', q, r, s, t, u)
 
 -- WHATEVER 18 BYTES ask for a command are the writer's
 module _ (p : Parameters) (body : Bytes) (o : Octets body) (eighteen : length body ≡ suc most_tagged) (k : Command) where
-  own_body : well_tagged body ≡ true → tagged_request p (read_fields (body_fields body)) ≡ ToOutput (Commands k) → command_tags k ≡ body_fields body
+  own_body : well_tagged body ≡ true → tagged_request p (read_fields (body_fields body)) ≡ Ok (Commands k) → command_tags k ≡ body_fields body
   unfolding read_fields tagged_request command_tags when◌then◌else◌
   own_body w =
       let f = body_fields body in
@@ -196,7 +194,7 @@ module _ (p : Parameters) (body : Bytes) (o : Octets body) (eighteen : length bo
       rw (t.operation, t.lasting) (tags_same p f (fields_fit body o) (well_tagged_lem body w).known e t.ranges)))
       (λ e. rw e (λ h. absurd (refused_never k h)))
 
-  pub only_written : tagged_request p (read_body body) ≡ ToOutput (Commands k) → body ≡ body_bytes (command_tags k)
+  pub only_written : tagged_request p (read_body body) ≡ Ok (Commands k) → body ≡ body_bytes (command_tags k)
   unfolding read_body tagged_request when◌then◌else◌
   only_written =
       by_bool (well_tagged body)

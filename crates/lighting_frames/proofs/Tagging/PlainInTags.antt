@@ -14,7 +14,7 @@ use Rattle.lighting_levels.specs.Paper.Level.{real}
 use Rattle.lighting_levels.specs.Paper.Field.{byte_at, big_endian, octets}
 use Rattle.lighting_outputs.specs.Paper.Operations.{fields_of}
 use Rattle.lighting_frames.specs.Paper.Kinds.{kind_row, kind_length}
-use Rattle.lighting_frames.specs.Paper.Tags.{real_octets, tag_octets, listed, field_size, sizes, most_tagged, real_tag, whole_tag, tags_of, held_by, holds_at_most, operation_of, time_of, both_or_neither, own_tags, read_fields}
+use Rattle.lighting_frames.specs.Paper.Tags.{real_octets, tag_octets, listed, field_size, sizes, most_tagged, real_tag, whole_tag, tags_of, held_by, holds_at_most, operation_of, time_of, both_or_neither, own_tags, read_fields, holds}
 use Rattle.lighting_frames.specs.Paper.Frames.{Bytes, Octets, tagged_request, request_of}
 use Rattle.lighting_outputs.specs.Paper.Requests.{plain_duration, command_request}
 use Rattle.lighting_frames.specs.Paper.InTags.{plain_fields, plain_tags}
@@ -22,8 +22,7 @@ use Rattle.lighting_frames.specs.declared.Action.{Action}
 use Rattle.lighting_frames.specs.declared.Action.TheVariants.{WritesLevel, EmptiesSlot, WritesProperty, ReadsProperty, Stops, FadesTo, FadesToOver, RampsTo, RampsToAtRate, StepsUp, StepsDown, StepsUpBy, StepsDownBy, GoesTo, Relinquishes, CommandsTagged}
 use Rattle.lighting_outputs.specs.declared.Operation.{Operation}
 use Rattle.lighting_outputs.specs.declared.Operation.TheVariants.{Stop, FadeTo, FadeToOver, RampTo, RampToAtRate, StepUp, StepDown, StepUpBy, StepDownBy, Goto, Relinquish}
-use Rattle.lighting_frames.specs.declared.TagField.{TagField}
-use Rattle.lighting_frames.specs.declared.TagField.TheVariants.{Holds, Missing}
+use Rattle.lighting_frames.specs.declared.TagContent.{TagContent}
 use Rattle.lighting_frames.specs.declared.TagFields.{TagFields}
 use Rattle.lighting_levels.proofs.Split.{by_eq, leb_yes}
 use Rattle.lighting_frames.proofs.Octets.{word, respelled}
@@ -33,13 +32,13 @@ use Rattle.lighting_frames.proofs.Tagging.Commands.{Word, lasting_word, whole_fi
 
 -- THE BYTES OF A PLAIN COMMAND after the 13 common ones, from its fields: each that is there in four, the
 -- duration last, FFFFFFFF where it is missing
-abbrev plain_word : TagField → Bytes
-plain_word (Holds count value) = octets 4 value
-plain_word Missing = []
+abbrev plain_word : Option TagContent → Bytes
+plain_word (Some content) = octets 4 content.value
+plain_word None = []
 
-abbrev duration_word : TagField → Bytes
-duration_word (Holds count value) = octets 4 value
-duration_word Missing = octets 4 0xffff_ffff
+abbrev duration_word : Option TagContent → Bytes
+duration_word (Some content) = octets 4 content.value
+duration_word None = octets 4 0xffff_ffff
 
 abbrev pub plain_body : TagFields → Bytes
 plain_body f = plain_word f.level ++ (plain_word f.rate ++ (plain_word f.step ++ (plain_word f.fade ++ duration_word f.duration)))
@@ -89,7 +88,7 @@ module _ (b : Bytes) (o : Octets b) where
       (next_word 17 (omega arith) ∙ ap (λ (l : Bytes). octets 4 (big_endian 4 b 17) ++ l) (last_word 21 h))
 
   -- A COMMAND: of its operation, its fields and its words
-  module _ (number : ℕ) (level rate step : TagField) (fade : Option ℕ) (at : ℕ) (operation : Operation) where
+  module _ (number : ℕ) (level rate step : Option TagContent) (fade : Option ℕ) (at : ℕ) (operation : Operation) where
     abbrev fields : TagFields
     fields = plain_fields number level rate step fade (big_endian 4 b at)
 
@@ -136,7 +135,7 @@ module _ (b : Bytes) (o : Octets b) where
 
 -- EACH PLAIN KIND
 module _ (b : Bytes) (o : Octets b) where
-  held : (at : ℕ) → Fits real_octets (Holds 4 (big_endian 4 b at))
+  held : (at : ℕ) → Fits real_octets (holds 4 (big_endian 4 b at))
   held at = (omega arith, omega arith, word b o at)
 
   abbrev word13 : ℕ
@@ -145,11 +144,11 @@ module _ (b : Bytes) (o : Octets b) where
   abbrev word17 : ℕ
   word17 = big_endian 4 b 17
 
-  abbrev real13 : TagField
-  real13 = Holds 4 word13
+  abbrev real13 : Option TagContent
+  real13 = holds 4 word13
 
-  abbrev real17 : TagField
-  real17 = Holds 4 word17
+  abbrev real17 : Option TagContent
+  real17 = holds 4 word17
 
   pub same : (action : Action) → byte_at b 0 ≡ action_byte action → length b ≡ kind_length (action_byte action) → SameIf action b (plain_tags action b)
   unfolding plain_tags request_of kind_length kind_row operation_of held_by tags_of fields_of real_tag whole_tag both_or_neither field_size when◌then◌else◌
@@ -158,69 +157,69 @@ module _ (b : Bytes) (o : Octets b) where
   same WritesProperty k l = tt
   same ReadsProperty k l = tt
   same Stops k l =
-      fields_same b o 0 Missing Missing Missing None 13 Stop Stops (omega arith) (omega arith) tt tt tt tt (omega arith)
-      (fields_own b o 0 Missing Missing Missing None 13 Stop refl refl refl refl refl)
-      (fields_asked b o 0 Missing Missing Missing None 13 Stop refl refl refl refl refl)
+      fields_same b o 0 None None None None 13 Stop Stops (omega arith) (omega arith) tt tt tt tt (omega arith)
+      (fields_own b o 0 None None None None 13 Stop refl refl refl refl refl)
+      (fields_asked b o 0 None None None None 13 Stop refl refl refl refl refl)
       k
       (last_word b o 13 l)
   same FadesTo k l =
-      fields_same b o 1 real13 Missing Missing None 17 (FadeTo (real word13)) FadesTo (omega arith) (omega arith) (held 13) tt tt tt (omega arith)
-      (fields_own b o 1 real13 Missing Missing None 17 (FadeTo (real word13)) refl refl refl refl refl)
-      (fields_asked b o 1 real13 Missing Missing None 17 (FadeTo (real word13)) refl refl refl refl refl)
+      fields_same b o 1 real13 None None None 17 (FadeTo (real word13)) FadesTo (omega arith) (omega arith) (held 13) tt tt tt (omega arith)
+      (fields_own b o 1 real13 None None None 17 (FadeTo (real word13)) refl refl refl refl refl)
+      (fields_asked b o 1 real13 None None None 17 (FadeTo (real word13)) refl refl refl refl refl)
       k
       (two_words b o l)
   same FadesToOver k l =
-      fields_same b o 2 real13 Missing Missing (Some word17) 21 (FadeToOver (real word13) word17) FadesToOver (omega arith) (omega arith) (held 13) tt tt (word b o 17) (omega (arith, whole_size (Some word17)))
-      (fields_own b o 2 real13 Missing Missing (Some word17) 21 (FadeToOver (real word13) word17) refl refl refl refl refl)
-      (fields_asked b o 2 real13 Missing Missing (Some word17) 21 (FadeToOver (real word13) word17) refl refl refl refl refl)
+      fields_same b o 2 real13 None None (Some word17) 21 (FadeToOver (real word13) word17) FadesToOver (omega arith) (omega arith) (held 13) tt tt (word b o 17) (omega (arith, whole_size (Some word17)))
+      (fields_own b o 2 real13 None None (Some word17) 21 (FadeToOver (real word13) word17) refl refl refl refl refl)
+      (fields_asked b o 2 real13 None None (Some word17) 21 (FadeToOver (real word13) word17) refl refl refl refl refl)
       k
       (three_words b o l)
   same RampsTo k l =
-      fields_same b o 3 real13 Missing Missing None 17 (RampTo (real word13)) RampsTo (omega arith) (omega arith) (held 13) tt tt tt (omega arith)
-      (fields_own b o 3 real13 Missing Missing None 17 (RampTo (real word13)) refl refl refl refl refl)
-      (fields_asked b o 3 real13 Missing Missing None 17 (RampTo (real word13)) refl refl refl refl refl)
+      fields_same b o 3 real13 None None None 17 (RampTo (real word13)) RampsTo (omega arith) (omega arith) (held 13) tt tt tt (omega arith)
+      (fields_own b o 3 real13 None None None 17 (RampTo (real word13)) refl refl refl refl refl)
+      (fields_asked b o 3 real13 None None None 17 (RampTo (real word13)) refl refl refl refl refl)
       k
       (two_words b o l)
   same RampsToAtRate k l =
-      fields_same b o 4 real13 real17 Missing None 21 (RampToAtRate (real word13) (real word17)) RampsToAtRate (omega arith) (omega arith) (held 13) (held 17) tt tt (omega arith)
-      (fields_own b o 4 real13 real17 Missing None 21 (RampToAtRate (real word13) (real word17)) refl refl refl refl refl)
-      (fields_asked b o 4 real13 real17 Missing None 21 (RampToAtRate (real word13) (real word17)) refl refl refl refl refl)
+      fields_same b o 4 real13 real17 None None 21 (RampToAtRate (real word13) (real word17)) RampsToAtRate (omega arith) (omega arith) (held 13) (held 17) tt tt (omega arith)
+      (fields_own b o 4 real13 real17 None None 21 (RampToAtRate (real word13) (real word17)) refl refl refl refl refl)
+      (fields_asked b o 4 real13 real17 None None 21 (RampToAtRate (real word13) (real word17)) refl refl refl refl refl)
       k
       (three_words b o l)
   same StepsUp k l =
-      fields_same b o 5 Missing Missing Missing None 13 StepUp StepsUp (omega arith) (omega arith) tt tt tt tt (omega arith)
-      (fields_own b o 5 Missing Missing Missing None 13 StepUp refl refl refl refl refl)
-      (fields_asked b o 5 Missing Missing Missing None 13 StepUp refl refl refl refl refl)
+      fields_same b o 5 None None None None 13 StepUp StepsUp (omega arith) (omega arith) tt tt tt tt (omega arith)
+      (fields_own b o 5 None None None None 13 StepUp refl refl refl refl refl)
+      (fields_asked b o 5 None None None None 13 StepUp refl refl refl refl refl)
       k
       (last_word b o 13 l)
   same StepsDown k l =
-      fields_same b o 6 Missing Missing Missing None 13 StepDown StepsDown (omega arith) (omega arith) tt tt tt tt (omega arith)
-      (fields_own b o 6 Missing Missing Missing None 13 StepDown refl refl refl refl refl)
-      (fields_asked b o 6 Missing Missing Missing None 13 StepDown refl refl refl refl refl)
+      fields_same b o 6 None None None None 13 StepDown StepsDown (omega arith) (omega arith) tt tt tt tt (omega arith)
+      (fields_own b o 6 None None None None 13 StepDown refl refl refl refl refl)
+      (fields_asked b o 6 None None None None 13 StepDown refl refl refl refl refl)
       k
       (last_word b o 13 l)
   same StepsUpBy k l =
-      fields_same b o 7 Missing Missing real13 None 17 (StepUpBy (real word13)) StepsUpBy (omega arith) (omega arith) tt tt (held 13) tt (omega arith)
-      (fields_own b o 7 Missing Missing real13 None 17 (StepUpBy (real word13)) refl refl refl refl refl)
-      (fields_asked b o 7 Missing Missing real13 None 17 (StepUpBy (real word13)) refl refl refl refl refl)
+      fields_same b o 7 None None real13 None 17 (StepUpBy (real word13)) StepsUpBy (omega arith) (omega arith) tt tt (held 13) tt (omega arith)
+      (fields_own b o 7 None None real13 None 17 (StepUpBy (real word13)) refl refl refl refl refl)
+      (fields_asked b o 7 None None real13 None 17 (StepUpBy (real word13)) refl refl refl refl refl)
       k
       (two_words b o l)
   same StepsDownBy k l =
-      fields_same b o 8 Missing Missing real13 None 17 (StepDownBy (real word13)) StepsDownBy (omega arith) (omega arith) tt tt (held 13) tt (omega arith)
-      (fields_own b o 8 Missing Missing real13 None 17 (StepDownBy (real word13)) refl refl refl refl refl)
-      (fields_asked b o 8 Missing Missing real13 None 17 (StepDownBy (real word13)) refl refl refl refl refl)
+      fields_same b o 8 None None real13 None 17 (StepDownBy (real word13)) StepsDownBy (omega arith) (omega arith) tt tt (held 13) tt (omega arith)
+      (fields_own b o 8 None None real13 None 17 (StepDownBy (real word13)) refl refl refl refl refl)
+      (fields_asked b o 8 None None real13 None 17 (StepDownBy (real word13)) refl refl refl refl refl)
       k
       (two_words b o l)
   same GoesTo k l =
-      fields_same b o 9 real13 Missing Missing None 17 (Goto (real word13)) GoesTo (omega arith) (omega arith) (held 13) tt tt tt (omega arith)
-      (fields_own b o 9 real13 Missing Missing None 17 (Goto (real word13)) refl refl refl refl refl)
-      (fields_asked b o 9 real13 Missing Missing None 17 (Goto (real word13)) refl refl refl refl refl)
+      fields_same b o 9 real13 None None None 17 (Goto (real word13)) GoesTo (omega arith) (omega arith) (held 13) tt tt tt (omega arith)
+      (fields_own b o 9 real13 None None None 17 (Goto (real word13)) refl refl refl refl refl)
+      (fields_asked b o 9 real13 None None None 17 (Goto (real word13)) refl refl refl refl refl)
       k
       (two_words b o l)
   same Relinquishes k l =
-      fields_same b o 10 Missing Missing Missing None 13 Relinquish Relinquishes (omega arith) (omega arith) tt tt tt tt (omega arith)
-      (fields_own b o 10 Missing Missing Missing None 13 Relinquish refl refl refl refl refl)
-      (fields_asked b o 10 Missing Missing Missing None 13 Relinquish refl refl refl refl refl)
+      fields_same b o 10 None None None None 13 Relinquish Relinquishes (omega arith) (omega arith) tt tt tt tt (omega arith)
+      (fields_own b o 10 None None None None 13 Relinquish refl refl refl refl refl)
+      (fields_asked b o 10 None None None None 13 Relinquish refl refl refl refl refl)
       k
       (last_word b o 13 l)
   same CommandsTagged k l = tt

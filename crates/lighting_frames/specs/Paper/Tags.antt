@@ -1,7 +1,7 @@
 -- §1, 'LIGHTING COMMANDS IN BACNET'S OWN TAGGING': a command as clause 21 has it, in the context tags of
 -- clause 20.2, written and read. The reading is of the form alone, refusals 14 and 15: what is read meets the
 -- ranges of the plain kinds (`command_of`, Frames.antt).
-use Rattle.std.specs.Prelude.{Bool, true, false, List, ◌∷◌, ◌++◌, [], ℕ, suc, ◌+◌, ◌-◌, ◌*◌, leb, ltb, eqb, Float, length, get_or, take, drop, replicate, Option, Some, None}
+use Rattle.std.specs.Prelude.{Bool, true, false, List, ◌∷◌, ◌++◌, [], ℕ, suc, ◌+◌, ◌-◌, ◌*◌, leb, ltb, eqb, Float, length, get_or, take, drop, replicate, Option, Some, None, Result, Err}
 use Rattle.lighting_levels.specs.Paper.Choice.{when◌then◌else◌, ◌also◌, all_from}
 use Rattle.lighting_levels.specs.Paper.Level.{real, bits}
 use Rattle.lighting_levels.specs.Paper.Field.{byte_at, big_endian, octets}
@@ -10,12 +10,13 @@ use Rattle.lighting_outputs.specs.Paper.Operations.{operation_number, fields_of,
 use Rattle.lighting_outputs.specs.declared.Operation.{Operation}
 use Rattle.lighting_outputs.specs.declared.Operation.TheVariants.{Stop, FadeTo, FadeToOver, RampTo, RampToAtRate, StepUp, StepDown, StepUpBy, StepDownBy, Goto, Relinquish}
 use Rattle.lighting_outputs.specs.declared.Command.{Command}
-use Rattle.lighting_frames.specs.declared.TagField.{TagField}
-use Rattle.lighting_frames.specs.declared.TagField.TheVariants.{Holds, Missing}
+use Rattle.lighting_frames.specs.declared.TagContent.{TagContent}
 use Rattle.lighting_frames.specs.declared.TagFields.{TagFields}
 use Rattle.lighting_frames.specs.declared.TaggedBody.{TaggedBody}
-use Rattle.lighting_frames.specs.declared.TaggedReading.{TaggedReading}
-use Rattle.lighting_frames.specs.declared.TaggedReading.TheVariants.{Unreadable, Reads}
+use Rattle.lighting_frames.specs.declared.TaggedCommand.{TaggedCommand}
+use Rattle.lighting_outputs.specs.declared.Refusal.{Refusal}
+use Rattle.lighting_frames.specs.Paper.Tags.{holds, reads}
+use Rattle.lighting_outputs.specs.declared.Refusal.TheVariants.{BadTags, BadFields}
 
 -- A TAG. 'context tags (clause 20.2)': one octet before the content: the tag's number in the four high bits,
 -- bit 3 set for a context tag, and in the three low bits of how many octets the content is
@@ -44,35 +45,35 @@ whole_octets = record { least = 1; most = 4 }
 abbrev pub tag_octets : List OctetRange
 tag_octets = one_octet ∷ real_octets ∷ real_octets ∷ real_octets ∷ whole_octets ∷ whole_octets ∷ []
 
-abbrev pub listed : TagFields → List TagField
+abbrev pub listed : TagFields → List (Option TagContent)
 listed f = f.operation ∷ f.level ∷ f.rate ∷ f.step ∷ f.fade ∷ f.duration ∷ []
 
-abbrev pub named : List TagField → TagFields
+abbrev pub named : List (Option TagContent) → TagFields
 named fields =
     record {
-      operation = get_or fields 0 Missing;
-      level = get_or fields 1 Missing;
-      rate = get_or fields 2 Missing;
-      step = get_or fields 3 Missing;
-      fade = get_or fields 4 Missing;
-      duration = get_or fields 5 Missing;
+      operation = get_or fields 0 None;
+      level = get_or fields 1 None;
+      rate = get_or fields 2 None;
+      step = get_or fields 3 None;
+      fade = get_or fields 4 None;
+      duration = get_or fields 5 None;
     }
 
 -- how many bytes a field takes, its tag among them, and several
-unfoldable pub field_size : TagField → ℕ
-field_size (Holds count value) = suc count
-field_size Missing = 0
+unfoldable pub field_size : Option TagContent → ℕ
+field_size (Some content) = suc content.count
+field_size None = 0
 
-unfoldable pub sizes : List TagField → ℕ
+unfoldable pub sizes : List (Option TagContent) → ℕ
 sizes [] = 0
 sizes (field ∷ fields) = field_size field + sizes fields
 
 -- WRITTEN: the bytes of a field with its number, and of fields whose numbers go up from `number`
-unfoldable pub field_bytes : ℕ → TagField → List ℕ
-field_bytes number (Holds count value) = context_tag number count ∷ octets count value
-field_bytes number Missing = []
+unfoldable pub field_bytes : ℕ → Option TagContent → List ℕ
+field_bytes number (Some content) = context_tag number content.count ∷ octets content.count content.value
+field_bytes number None = []
 
-unfoldable pub bytes_from : ℕ → List TagField → List ℕ
+unfoldable pub bytes_from : ℕ → List (Option TagContent) → List ℕ
 bytes_from number [] = []
 bytes_from number (field ∷ fields) = field_bytes number field ++ bytes_from (suc number) fields
 
@@ -80,20 +81,20 @@ unfoldable pub tag_bytes : TagFields → List ℕ
 tag_bytes f = bytes_from 0 (listed f)
 
 -- what a field holds: a REAL's four octets; a whole number's fewest; nothing
-unfoldable pub real_tag : Option Float → TagField
-real_tag (Some x) = Holds 4 (bits x)
-real_tag None = Missing
+unfoldable pub real_tag : Option Float → Option TagContent
+real_tag (Some x) = holds 4 (bits x)
+real_tag None = None
 
-unfoldable pub whole_tag : Option ℕ → TagField
-whole_tag (Some v) = Holds (fewest_octets v) v
-whole_tag None = Missing
+unfoldable pub whole_tag : Option ℕ → Option TagContent
+whole_tag (Some v) = holds (fewest_octets v) v
+whole_tag None = None
 
 -- an operation with its own fields, and a duration
 unfoldable pub tags_of : Operation → Option ℕ → TagFields
 tags_of operation duration =
     let own = fields_of operation in
     record {
-      operation = Holds 1 (operation_number operation);
+      operation = holds 1 (operation_number operation);
       level = real_tag own.level;
       rate = real_tag own.rate;
       step = real_tag own.step;
@@ -120,16 +121,16 @@ body_bytes f = length (tag_bytes f) ∷ zero_filled (tag_bytes f)
 
 -- READ: the field with this number at the head of what is left of the L bytes. It is there if its tag is,
 -- with a length that it may have, and its content does not run past L
-unfoldable pub field_in : ℕ → OctetRange → List ℕ → TagField
+unfoldable pub field_in : ℕ → OctetRange → List ℕ → Option TagContent
 field_in number allowed left =
     let count = byte_at left 0 - context_tag number 0 in
     when within (context_tag number allowed.least) (context_tag number allowed.most) (byte_at left 0) also ltb count (length left)
-    then Holds count (big_endian count left 1)
-    else Missing
+    then holds count (big_endian count left 1)
+    else None
 
 -- 'in rising order': each field is looked for once, behind those of lower numbers. A tag out of order, of
 -- another number or length, or no context tag at all is not taken, and the bytes are not used up
-unfoldable pub fields_from : ℕ → List OctetRange → List ℕ → List TagField
+unfoldable pub fields_from : ℕ → List OctetRange → List ℕ → List (Option TagContent)
 fields_from number [] left = []
 fields_from number (allowed ∷ more) left =
     field_in number allowed left ∷ fields_from (suc number) more (drop (field_size (field_in number allowed left)) left)
@@ -146,9 +147,9 @@ body_fields body = named (fields_from 0 tag_octets (take (length_of body) (drop 
 unfoldable pub zero_beyond : List ℕ → Bool
 zero_beyond body = all_from (λ (i : ℕ). eqb (byte_at body i) 0) (most_tagged - length_of body) (suc (length_of body))
 
-unfoldable pub holds_at_most : ℕ → TagField → Bool
-holds_at_most most (Holds count value) = leb value most
-holds_at_most most Missing = true
+unfoldable pub holds_at_most : ℕ → Option TagContent → Bool
+holds_at_most most (Some content) = leb content.value most
+holds_at_most most None = true
 
 unfoldable pub well_tagged : List ℕ → Bool
 well_tagged body =
@@ -159,9 +160,9 @@ well_tagged body =
 
 -- THE OPERATION with the number of tag 0, and what the fields hold
 -- What stands for a missing field decides nothing: an operation that has that field is 15 then (`own_tags`)
-unfoldable pub held_by : TagField → ℕ
-held_by (Holds count value) = value
-held_by Missing = 0
+unfoldable pub held_by : Option TagContent → ℕ
+held_by (Some content) = content.value
+held_by None = 0
 
 abbrev pub operations : Float → Float → Float → ℕ → List Operation
 operations level rate step fade =
@@ -185,21 +186,21 @@ operation_of f =
     (held_by f.operation)
     Stop
 
-unfoldable pub time_of : TagField → Option ℕ
-time_of (Holds count value) = Some value
-time_of Missing = None
+unfoldable pub time_of : Option TagContent → Option ℕ
+time_of (Some content) = Some content.value
+time_of None = None
 
 -- '15: field missing, foreign, or not in fewest octets'. 'The operation's own fields must be there and no
 -- others', the operation itself too; a REAL's octets are always four
-unfoldable pub both_or_neither : TagField → TagField → Bool
-both_or_neither (Holds count value) (Holds count' value') = true
-both_or_neither (Holds count value) Missing = false
-both_or_neither Missing (Holds count value) = false
-both_or_neither Missing Missing = true
+unfoldable pub both_or_neither : Option TagContent → Option TagContent → Bool
+both_or_neither (Some content) (Some content') = true
+both_or_neither (Some content) None = false
+both_or_neither None (Some content) = false
+both_or_neither None None = true
 
-unfoldable pub fewest : TagField → Bool
-fewest (Holds count value) = eqb count (fewest_octets value)
-fewest Missing = true
+unfoldable pub fewest : Option TagContent → Bool
+fewest (Some content) = eqb content.count (fewest_octets content.value)
+fewest None = true
 
 unfoldable pub own_tags : TagFields → TagFields → Bool
 own_tags own f =
@@ -212,9 +213,9 @@ own_tags own f =
     also fewest f.duration
 
 -- THE READING of a body: its operation and its duration, or 14, or 15
-unfoldable pub read_fields : TagFields → TaggedReading
+unfoldable pub read_fields : TagFields → Result TaggedCommand Refusal
 read_fields f =
-    when own_tags (tags_of (operation_of f) (time_of f.duration)) f then Reads (operation_of f) (time_of f.duration) else Unreadable 15
+    when own_tags (tags_of (operation_of f) (time_of f.duration)) f then reads (operation_of f) (time_of f.duration) else Err BadFields
 
-unfoldable pub read_body : List ℕ → TaggedReading
-read_body body = when well_tagged body then read_fields (body_fields body) else Unreadable 14
+unfoldable pub read_body : List ℕ → Result TaggedCommand Refusal
+read_body body = when well_tagged body then read_fields (body_fields body) else Err BadTags

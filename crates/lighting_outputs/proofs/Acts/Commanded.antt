@@ -222,7 +222,7 @@ module _ (p : Parameters) (t : ℕ) (c : Settings) (k : SettingsInRange p c) (s 
   effect_staged b Relinquish m g = relinquished_staged
 
 -- THE DURATION
-timed_kept : (p : Parameters) (t y : ℕ) (m : Timer) (d : Duration) → Slot y → DurationInRange p d → Timed t m → Timed t (timed t y m d)
+timed_kept : (p : Parameters) (t y : ℕ) (m : Option Timer) (d : Duration) → Slot y → DurationInRange p d → Timed t m → Timed t (timed t y m d)
 unfolding timed
 timed_kept p t y m (Lasts d) k g h = (k, omega (arith, g.least))
 timed_kept p t y m Cancels k g h = tt

@@ -1,6 +1,6 @@
 -- A DURATION empties its slot at its moment and not before, whatever writes come; 0 cancels it, absent leaves
 -- it.
-use Rattle.std.specs.Prelude.{Option, Some, None}
+use Rattle.std.specs.Prelude.{Option, Some, None, Err}
 use mathlib.Core.Path.{◌≡◌, refl, sym, ap, subst, ◌∙◌}
 use mathlib.Core.Logic.{◌≢◌}
 use mathlib.Core.Bool.{Bool, true, false, true≢false}
@@ -12,7 +12,7 @@ use Rattle.lighting_levels.specs.Paper.Choice.{when◌then◌else◌}
 use Rattle.lighting_outputs.specs.Paper.Parameters.{Parameters}
 use Rattle.lighting_outputs.specs.Paper.Slots.{slot_count, slot6, Slots, slot, is_live, put, emptied}
 use Rattle.lighting_outputs.specs.Paper.Record.{with_burning, with_effect, with_settings, with_command}
-use Rattle.lighting_outputs.specs.Paper.Passing.{with_burned, timer_due, activity_due, is_due, timer_at, emptied_by, expired, end_movement_of, end_movement_by, end_movement_on_expiry, next_activity, activity_at, phase_slots, next_slots, slots_at, after_events, fire, tick, ticks}
+use Rattle.lighting_outputs.specs.Paper.Passing.{with_burned, timer_due, activity_due, is_due, timer_at, emptied_by, expired, end_movement_of, end_movement_by, end_movement_on_expiry, next_activity, activity_at, phase_slots, next_slots, slots_at, after_events, fire, tick, ticks, running}
 use Rattle.lighting_outputs.specs.Paper.Writing.{stored, warns, warned_by, warned, ended_empty, ended_stored, written_warned, written_zero, written_calm, written_by, written, slot_relinquished}
 use Rattle.lighting_outputs.specs.Paper.Rows.{within}
 use Rattle.lighting_outputs.specs.Paper.Properties.{changed}
@@ -27,9 +27,7 @@ use Rattle.lighting_outputs.specs.declared.Warning.{Warning}
 use Rattle.lighting_outputs.specs.declared.Activity.{Activity}
 use Rattle.lighting_outputs.specs.declared.Activity.TheVariants.{Still, Moving, Warned}
 use Rattle.lighting_outputs.specs.declared.Timer.{Timer}
-use Rattle.lighting_outputs.specs.declared.Timer.TheVariants.{Off, Running}
 use Rattle.lighting_outputs.specs.declared.Operation.{Operation}
-use Rattle.lighting_outputs.specs.declared.Request.TheVariants.{Refuse}
 use Rattle.lighting_outputs.specs.declared.OutputRequest.{OutputRequest}
 use Rattle.lighting_outputs.specs.declared.OutputRequest.TheVariants.{Write, Empty, Change, Read, Commands}
 use Rattle.lighting_outputs.specs.declared.Output.{Output}
@@ -45,6 +43,7 @@ use Rattle.lighting_outputs.proofs.Rules.RequestInRange.{OutputRequestInRange}
 use Rattle.lighting_outputs.proofs.Acts.Acted.{by_change, acted_sound}
 use Rattle.lighting_outputs.proofs.Consequences.Present.{slot_same, slot_other}
 use Rattle.lighting_outputs.proofs.Consequences.Alone.{alone}
+use Rattle.lighting_outputs.specs.declared.Refusal.TheVariants.{WholeOutOfRange}
 
 -- A STRETCH OF AN OUTPUT'S LIFE without a command: milliseconds, and whatever else a frame may ask, in any
 -- order
@@ -119,21 +118,21 @@ acted_timer tenant t o (Read q) n = refl
 acted_timer tenant t o (Commands k) n = elim n [ ]
 
 -- UNTIL ITS MOMENT it runs on
-tick_timer : (t q d : ℕ) (o : Output) → o.timer ≡ Running q d → suc t < d → (tick t o).timer ≡ Running q d
+tick_timer : (t q d : ℕ) (o : Output) → o.timer ≡ running q d → suc t < d → (tick t o).timer ≡ running q d
 unfolding tick fire after_events with_burned with_burning timer_due is_due timer_at when◌then◌else◌
 tick_timer t q d o e h = rw (e, eqb_miss {a = d} {b = suc t} (omega arith))
 
-pub runs_on : (p : Parameters) {t t' : ℕ} {o o' : Output} (q d : ℕ) → Life p t o t' o' → o.timer ≡ Running q d → t' < d → o'.timer ≡ Running q d
+pub runs_on : (p : Parameters) {t t' : ℕ} {o o' : Output} (q d : ℕ) → Life p t o t' o' → o.timer ≡ running q d → t' < d → o'.timer ≡ running q d
 runs_on p q d here e h = e
 runs_on p q d (millisecond {t = t} {o = o} l) e h = runs_on p q d l (tick_timer t q d o e (omega (arith, forward p l))) h
 runs_on p q d (request {t = t} {o = o} tenant r g n l) e h = runs_on p q d l (acted_timer tenant t o r n ∙ e) h
 
 -- one that was cancelled does not come back
-tick_off : (t : ℕ) (o : Output) → o.timer ≡ Off → (tick t o).timer ≡ Off
+tick_off : (t : ℕ) (o : Output) → o.timer ≡ None → (tick t o).timer ≡ None
 unfolding tick fire after_events with_burned with_burning timer_due is_due timer_at when◌then◌else◌
 tick_off t o e = rw e
 
-pub stays_off : (p : Parameters) {t t' : ℕ} {o o' : Output} → Life p t o t' o' → o.timer ≡ Off → o'.timer ≡ Off
+pub stays_off : (p : Parameters) {t t' : ℕ} {o o' : Output} → Life p t o t' o' → o.timer ≡ None → o'.timer ≡ None
 stays_off p here e = e
 stays_off p (millisecond {t = t} {o = o} l) e = stays_off p l (tick_off t o e)
 stays_off p (request {t = t} {o = o} tenant r g n l) e = stays_off p l (acted_timer tenant t o r n ∙ e)
@@ -175,10 +174,10 @@ slots_none t q a s z k n w h = by_bool (is_due t (activity_due a)) (λ e. rw e (
     next (Moving m) l = unfold next_slots in h
     next (Warned x) l = unfold next_slots in (phase x x.phase l)
 
-pub expires : (p : Parameters) (t q : ℕ) (o : Output) → Sound p t o → o.timer ≡ Running q (suc t) → (slot (tick t o).slots q ≡ None) × ((tick t o).timer ≡ Off)
+pub expires : (p : Parameters) (t q : ℕ) (o : Output) → Sound p t o → o.timer ≡ running q (suc t) → (slot (tick t o).slots q ≡ None) × ((tick t o).timer ≡ None)
 unfolding tick fire after_events with_burned with_burning timer_due is_due emptied_by expired end_movement_by end_movement_on_expiry timer_at when◌then◌else◌
 expires p t q o h e =
-    let k : Slot q = (subst (λ (z : Timer). Timed t z) e h.timer).0 in
+    let k : Slot q = (subst (λ (z : Option Timer). Timed t z) e h.timer).0 in
     rw (e, eqb_hit {a = suc t} {b = suc t} refl) (
       slots_none (suc t) q (end_movement_of q o.activity) (emptied o.slots q) (put_sized o.slots h.slots.size q None) k.inside k.free
           (end_movement_of_owned q o.activity (owned p t o o.activity h.activity))
@@ -187,11 +186,11 @@ expires p t q o h e =
     )
 
 -- '(ending a movement that slot owned)', and no other
-pub expires_own : (t q : ℕ) (o : Output) (m : Movement) → o.timer ≡ Running q (suc t) → o.activity ≡ Moving m → m.owner ≡ q → (tick t o).activity ≡ Still
+pub expires_own : (t q : ℕ) (o : Output) (m : Movement) → o.timer ≡ running q (suc t) → o.activity ≡ Moving m → m.owner ≡ q → (tick t o).activity ≡ Still
 unfolding tick fire after_events with_burned with_burning timer_due activity_due is_due end_movement_by end_movement_on_expiry end_movement_of next_activity activity_at when◌then◌else◌
 expires_own t q o m e f w = rw (e, f, eqb_hit {a = suc t} {b = suc t} refl, eqb_hit {a = m.owner} {b = q} w)
 
-pub expires_other : (t q : ℕ) (o : Output) (m : Movement) → o.timer ≡ Running q (suc t) → o.activity ≡ Moving m → m.owner ≢ q → suc t < m.over
+pub expires_other : (t q : ℕ) (o : Output) (m : Movement) → o.timer ≡ running q (suc t) → o.activity ≡ Moving m → m.owner ≢ q → suc t < m.over
     → (tick t o).activity ≡ Moving m
 unfolding tick fire after_events with_burned with_burning timer_due activity_due is_due end_movement_by end_movement_on_expiry end_movement_of next_activity activity_at when◌then◌else◌
 expires_other t q o m e f w l =
@@ -199,7 +198,7 @@ expires_other t q o m e f w l =
 
 -- AND NOTHING ELSE: beside the same output without a duration, no other slot differs, and a warning runs on
 abbrev pub untimed : Output → Output
-untimed o = record { settings = o.settings; slots = o.slots; activity = o.activity; timer = Off; burning = o.burning; last = o.last; relay = o.relay }
+untimed o = record { settings = o.settings; slots = o.slots; activity = o.activity; timer = None; burning = o.burning; last = o.last; relay = o.relay }
 
 put_alike : (s : Slots) → length s.levels ≡ slot_count → (q j i : ℕ) (x : Option ℕ) → q < slot_count → q ≢ j → i < slot_count
     → slot (put (emptied s q) i x) j ≡ slot (put s i x) j
@@ -237,11 +236,11 @@ moving_slots : (d : ℕ) (m : Movement) (s : Slots) → slots_at d (Moving m) s 
 unfolding slots_at next_slots when◌then◌else◌
 moving_slots d m s = by_bool (is_due d (activity_due (Moving m))) (λ e. rw e) (λ e. rw e)
 
-pub expires_alone : (p : Parameters) (t q : ℕ) (o : Output) → Sound p t o → o.timer ≡ Running q (suc t) → (j : ℕ) → q ≢ j
+pub expires_alone : (p : Parameters) (t q : ℕ) (o : Output) → Sound p t o → o.timer ≡ running q (suc t) → (j : ℕ) → q ≢ j
     → slot (tick t o).slots j ≡ slot (tick t (untimed o)).slots j
 unfolding tick fire after_events with_burned with_burning timer_due is_due emptied_by expired end_movement_by end_movement_on_expiry when◌then◌else◌
 expires_alone p t q o h e j n =
-    let k : Slot q = (subst (λ (z : Timer). Timed t z) e h.timer).0 in
+    let k : Slot q = (subst (λ (z : Option Timer). Timed t z) e h.timer).0 in
     rw (e, eqb_hit {a = suc t} {b = suc t} refl)
     (end_movement_of_slots (suc t) q j o.activity
     ∙ slots_alike (suc t) q j o.activity o.slots h.slots.size k.inside n (owned p t o o.activity h.activity))
@@ -255,7 +254,7 @@ expires_alone p t q o h e j n =
         (λ f. rw f))
     end_movement_of_slots d q j (Warned w) = unfold end_movement_of in refl
 
-pub expires_warned : (p : Parameters) (t q : ℕ) (o : Output) → Sound p t o → o.timer ≡ Running q (suc t) → is_live o.slots slot6 ≡ true
+pub expires_warned : (p : Parameters) (t q : ℕ) (o : Output) → Sound p t o → o.timer ≡ running q (suc t) → is_live o.slots slot6 ≡ true
     → (tick t o).activity ≡ (tick t (untimed o)).activity
 unfolding tick fire after_events with_burned with_burning timer_due is_due end_movement_by end_movement_on_expiry when◌then◌else◌
 expires_warned p t q o h e l = rw (e, eqb_hit {a = suc t} {b = suc t} refl) (go o.activity h.activity)
@@ -289,31 +288,31 @@ not_before p (suc n) t o h e a =
     not_before p n (suc t) (tick t o) (tick_sound p t o h) (rw k.0 e) (rw k.1 (rw z at a)) ∙ k.0
 
 -- A COMMAND WHOSE OTHER FIELDS ARE IN RANGE, which are checked before it, is judged by its duration field
-pub in_range_lem : (p : Parameters) (k : Operation) (d : ℕ) → fields_refusal p (fields_of k) ≡ 0 → command_request p k d ≡ command_with_duration p k (plain_duration d)
+pub in_range_lem : (p : Parameters) (k : Operation) (d : ℕ) → fields_refusal p (fields_of k) ≡ None → command_request p k d ≡ command_with_duration p k (plain_duration d)
 unfolding command_request command_of command_request_by when◌then◌else◌
 in_range_lem p k d e = rw e
 
 -- A COMMAND'S DURATION FIELD d, of an output that keeps the rules. 100 to the longest duration: whatever
 -- comes but a command, the slot is empty d ms later
 pub duration_lasts : (p : Parameters) → startable p ≡ true → (t d : ℕ) (o : Output) (k : Operation) → 100 ≤ d → d ≤ p.duration
-    → (alone t o (command_with_duration p k (plain_duration d))).output.timer ≡ Running o.settings.slot (t + d)
+    → (alone t o (command_with_duration p k (plain_duration d))).output.timer ≡ running o.settings.slot (t + d)
 unfolding acted served done after_events plain_duration command_with_duration command_lasting within commanded commanded_from with_command timed when◌then◌else◌
 duration_lasts p allowed t d o k h m =
     rw (eqb_miss {a = d} {b = 0xffff_ffff} (omega (arith, (startable_of p allowed).duration)), eqb_miss {a = d} {b = 0} (omega arith), leb_yes {a = 100} {b = d} h, leb_yes {a = d} {b = p.duration} m)
 
 pub duration_empties : (p : Parameters) → startable p ≡ true → {t t' : ℕ} {o' : Output} (o : Output) (d : ℕ) (k : Operation) → 100 ≤ d → d ≤ p.duration
     → Sound p t (alone t o (command_with_duration p k (plain_duration d))).output → Life p t (alone t o (command_with_duration p k (plain_duration d))).output t' o' → suc t' ≡ t + d
-    → (slot (tick t' o').slots o.settings.slot ≡ None) × ((tick t' o').timer ≡ Off)
+    → (slot (tick t' o').slots o.settings.slot ≡ None) × ((tick t' o').timer ≡ None)
 duration_empties p allowed {t} {t'} {o'} o d k h m sound l e =
     expires p t' o.settings.slot o' (life_sound p l sound)
     (runs_on p o.settings.slot (t + d) l (duration_lasts p allowed t d o k h m) (omega arith)
-    ∙ ap (λ (z : ℕ). Running o.settings.slot z) (sym e))
+    ∙ ap (λ (z : ℕ). running o.settings.slot z) (sym e))
 
 -- 0 cancels, and what was cancelled never falls due
-pub duration_cancels : (p : Parameters) {t t' : ℕ} {o' : Output} (o : Output) (k : Operation) → Life p t (alone t o (command_with_duration p k (plain_duration 0))).output t' o' → o'.timer ≡ Off
+pub duration_cancels : (p : Parameters) {t t' : ℕ} {o' : Output} (o : Output) (k : Operation) → Life p t (alone t o (command_with_duration p k (plain_duration 0))).output t' o' → o'.timer ≡ None
 duration_cancels p {t} o k l = stays_off p l off
   where
-    off : (alone t o (command_with_duration p k (plain_duration 0))).output.timer ≡ Off
+    off : (alone t o (command_with_duration p k (plain_duration 0))).output.timer ≡ None
     off = unfold acted served done after_events plain_duration command_with_duration command_lasting commanded commanded_from with_command timed when◌then◌else◌ in refl
 
 -- FFFFFFFF leaves it
@@ -322,11 +321,11 @@ unfolding acted served done after_events plain_duration command_with_duration co
 duration_absent p t o k = refl
 
 -- any other is refused: 1 to 99, and above the longest
-pub duration_low : (p : Parameters) (d : ℕ) (k : Operation) → 0 < d → d < 100 → command_with_duration p k (plain_duration d) ≡ Refuse 12
+pub duration_low : (p : Parameters) (d : ℕ) (k : Operation) → 0 < d → d < 100 → command_with_duration p k (plain_duration d) ≡ Err WholeOutOfRange
 unfolding plain_duration command_with_duration command_lasting within when◌then◌else◌
 duration_low p d k h m = rw (eqb_miss {a = d} {b = 0xffff_ffff} (omega arith), eqb_miss {a = d} {b = 0} (omega arith), leb_no {a = 100} {b = d} m)
 
-pub duration_high : (p : Parameters) (d : ℕ) (k : Operation) → p.duration < d → d ≢ 0xffff_ffff → command_with_duration p k (plain_duration d) ≡ Refuse 12
+pub duration_high : (p : Parameters) (d : ℕ) (k : Operation) → p.duration < d → d ≢ 0xffff_ffff → command_with_duration p k (plain_duration d) ≡ Err WholeOutOfRange
 unfolding plain_duration command_with_duration command_lasting within when◌then◌else◌
 duration_high p d k h n =
     rw (eqb_miss {a = d} {b = 0xffff_ffff} n, eqb_miss {a = d} {b = 0} (omega arith), leb_no {a = d} {b = p.duration} h) (by_bool (leb 100 d) (λ e. rw e) (λ e. rw e))

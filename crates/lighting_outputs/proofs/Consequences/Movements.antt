@@ -1,6 +1,6 @@
 -- A FADE AND A RAMP begin at the start level and end on the target at their length; between, they are where
 -- the paper's formula says.
-use Rattle.std.specs.Prelude.{None}
+use Rattle.std.specs.Prelude.{None, Option, Some}
 use mathlib.Core.Path.{◌≡◌, refl, sym, ap, subst, ◌∙◌}
 use mathlib.Core.Logic.{◌≢◌}
 use Prim.Native.Nat.{ℕ, zero, suc, ◌+◌, ◌-◌, ◌*◌, ◌/◌, ◌≤◌, ◌<◌, min}
@@ -23,7 +23,6 @@ use Rattle.lighting_outputs.specs.declared.Movement.{Movement}
 use Rattle.lighting_outputs.specs.declared.Activity.{Activity}
 use Rattle.lighting_outputs.specs.declared.Activity.TheVariants.{Still, Moving, Warned}
 use Rattle.lighting_outputs.specs.declared.Timer.{Timer}
-use Rattle.lighting_outputs.specs.declared.Timer.TheVariants.{Off, Running}
 use Rattle.lighting_outputs.specs.declared.Duration.{Duration}
 use Rattle.lighting_outputs.specs.declared.Operation.TheVariants.{FadeTo, FadeToOver, RampTo, RampToAtRate}
 use Rattle.lighting_outputs.specs.declared.Command.{Command}
@@ -188,9 +187,9 @@ along_none : (w : Pace) (g l k : ℕ) → along w g g l k ≡ g
 along_none Fade g l k = rw (sub_self g, no_way k l) (omega arith)
 along_none (Ramp r) g l k = omega arith
 
-timer_sound_lem : (t : ℕ) (m : Timer) → Timed t m → TimerAfter t m
-timer_sound_lem t Off h = tt
-timer_sound_lem t (Running q d) h = h.1
+timer_sound_lem : (t : ℕ) (m : Option Timer) → Timed t m → TimerAfter t m
+timer_sound_lem t None h = tt
+timer_sound_lem t (Some timer) h = h.1
 
 module _ (p : Parameters) (t : ℕ) (o o' : Output) (y g l : ℕ) (w : Pace) (sound : Sound p t o')
     (acts : o'.activity ≡ movement t y (progress_value t o) g l w)

@@ -1,6 +1,6 @@
 -- DOCUMENT 01'S OWN NUMBERS. The theorems hold for any set of parameters. At document 01's, of a panel of 64
 -- outputs, these are the numbers that they speak of, and that an engineer reads in the paper.
-use Rattle.std.specs.Prelude.{Some}
+use Rattle.std.specs.Prelude.{Some, Ok, Err, None}
 use mathlib.Core.Path.{◌≡◌, refl}
 use mathlib.Core.List.{[], ◌∷◌}
 use mathlib.Core.Bool.{Bool}
@@ -20,8 +20,8 @@ use Rattle.lighting_outputs.specs.declared.Operation.{Operation}
 use Rattle.lighting_outputs.specs.declared.OutputRequest.TheVariants.{Commands}
 use Rattle.lighting_outputs.specs.declared.Property.TheVariants.{FadeTime}
 use Rattle.lighting_outputs.specs.declared.Range.TheVariants.{Whole}
-use Rattle.lighting_outputs.specs.declared.Request.TheVariants.{Refuse, ToOutput}
 use Rattle.lighting_outputs.specs.declared.Settings.{Settings}
+use Rattle.lighting_outputs.specs.declared.Refusal.TheVariants.{WholeOutOfRange}
 
 -- stations, outputs, the longest fade time and the longest duration; then the longest movement, the longest
 -- blink time and a fresh Fade_Time
@@ -41,15 +41,15 @@ module _ (outputs : ℕ) where
   pub fade_row : row_of (document01 outputs) FadeTime ≡ Whole 100 86400000
   fade_row = refl
 
-  pub fade_field : (fade : ℕ) → time_field_refusal (document01 outputs) (Some fade) ≡ (when within 100 86400000 fade then 0 else 12)
+  pub fade_field : (fade : ℕ) → time_field_refusal (document01 outputs) (Some fade) ≡ (when within 100 86400000 fade then None else Some WholeOutOfRange)
   unfolding time_field_refusal meets
   fade_field fade = refl
 
   pub duration_field_lem : (operation : Operation) (d : ℕ)
       → command_lasting (document01 outputs) operation d
-      ≡ (when eqb d 0 then ToOutput (Commands (record { operation = operation; duration = Cancels }))
-      else when within 100 86400000 d then ToOutput (Commands (record { operation = operation; duration = Lasts d }))
-      else Refuse 12)
+      ≡ (when eqb d 0 then Ok (Commands (record { operation = operation; duration = Cancels }))
+      else when within 100 86400000 d then Ok (Commands (record { operation = operation; duration = Lasts d }))
+      else Err WholeOutOfRange)
   unfolding command_lasting
   duration_field_lem operation d = refl
 

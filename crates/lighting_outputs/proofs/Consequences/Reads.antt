@@ -89,7 +89,7 @@ read_relay tenant t o = refl
 
 -- '0F last operation (kind minus 10), 10 its level, 11 rate, 12 step, 13 fade time, 14 duration (Absent where
 -- it had none)', after a command without a duration
-pub read_last : (tenant : Bool) (t : ℕ) (o : Output) (r : Effect) (timer : Timer) (x y : Float) (f : ℕ)
+pub read_last : (tenant : Bool) (t : ℕ) (o : Output) (r : Effect) (timer : Option Timer) (x y : Float) (f : ℕ)
     → map
     (λ (k : Operation). map (reads_as tenant t (with_command o r timer (record { operation = k; duration = Omitted })))
     (0x0f ∷ 0x10 ∷ 0x11 ∷ 0x12 ∷ 0x13 ∷ 0x14 ∷ []))

@@ -1,6 +1,6 @@
 -- REFUSAL 11 OF A PROPERTY'S WRITE, over the rows: exactly where the REAL is out of its row's range the
 -- answer is 11, and everything is left.
-use Rattle.std.specs.Prelude.{Option, Some, None}
+use Rattle.std.specs.Prelude.{Option, Some, None, Ok, Err}
 use mathlib.Core.Path.{◌≡◌, refl}
 use mathlib.Core.Bool.{false}
 use Prim.Native.Nat.{ℕ}
@@ -18,12 +18,13 @@ use Rattle.lighting_outputs.specs.declared.Output.{Output}
 use Rattle.lighting_outputs.specs.declared.Property.{Property}
 use Rattle.lighting_outputs.specs.declared.Range.{Range}
 use Rattle.lighting_outputs.specs.declared.Range.TheVariants.{Percent, Limit, Amount, Whole, Priority, ReadOnly}
-use Rattle.lighting_outputs.specs.declared.Request.{Request}
-use Rattle.lighting_outputs.specs.declared.Request.TheVariants.{Refuse, ToOutput}
+use Rattle.lighting_outputs.specs.Paper.Answers.{Request, refusal_number}
 use Rattle.lighting_outputs.specs.declared.OutputRequest.TheVariants.{Change}
 use Rattle.lighting_levels.proofs.Split.{by_bool}
 use Rattle.lighting_outputs.proofs.Consequences.Alone.{alone}
 use Rattle.lighting_outputs.proofs.Consequences.Outside.{NotFrom, Outside, amounts_refused, amounts_only, levels_refused, levels_only}
+use Rattle.lighting_outputs.specs.declared.Refusal.TheVariants.{RealOutOfRange, NotWritable, BadPriority, WholeOutOfRange}
+use Rattle.lighting_outputs.specs.declared.Refusal.{Refusal}
 
 -- a rate or a step
 amount_refused : (x : Float) → NotFrom 1 x → is_amount x ≡ false
@@ -39,7 +40,7 @@ amount_only x refused = amounts_only 1 x (by (real_from_to 1 x) refused)
     by None refused' = refl
 
 -- OUT OF RANGE, IT IS 11: of the value written, its pattern
-asks_eleven : (row : Range) (property : Property) (pattern : ℕ) → Outside row (real pattern) → change_by row property pattern ≡ Refuse 11
+asks_eleven : (row : Range) (property : Property) (pattern : ℕ) → Outside row (real pattern) → change_by row property pattern ≡ Err RealOutOfRange
 unfolding change_by change_to limit_of when◌then◌else◌
 asks_eleven Percent property pattern out = rw (levels_refused (real pattern) out)
 asks_eleven Limit property pattern out = rw (amounts_refused 8 (real pattern) out)
@@ -59,11 +60,11 @@ module _ (t : ℕ) (o : Output) where
   abbrev Other : Request → Type 0
   Other request = (alone t o request).answer ≡ Refused 11 → ⊥
 
-  refused_other : (refusal : ℕ) → (refusal ≡ 11 → ⊥) → Other (Refuse refusal)
+  refused_other : (refusal : Refusal) → (refusal_number refusal ≡ 11 → ⊥) → Other (Err refusal)
   unfolding served
   refused_other refusal differs answer = differs (cc)
 
-  changed_other : (property : Property) (v : ℕ) → Other (ToOutput (Change property v))
+  changed_other : (property : Property) (v : ℕ) → Other (Ok (Change property v))
   unfolding served acted changed_unless unchanged done when◌then◌else◌
   changed_other property v =
       by_bool (min_over_max (settings_with o.settings property v))
@@ -90,12 +91,12 @@ module _ (t : ℕ) (o : Output) where
   by_row (Whole low high) property pattern =
       by_bool (within low high pattern)
       (λ test. rw test (λ answer. changed_other property pattern answer))
-      (λ test. rw test (λ answer. refused_other 12 (λ same. omega arith) answer))
+      (λ test. rw test (λ answer. refused_other WholeOutOfRange (λ same. omega arith) answer))
   by_row Priority property pattern =
       by_bool (is_priority pattern)
       (λ test. rw test (λ answer. changed_other property _ answer))
-      (λ test. rw test (λ answer. refused_other 10 (λ same. omega arith) answer))
-  by_row ReadOnly property pattern = λ answer. refused_other 9 (λ same. omega arith) answer
+      (λ test. rw test (λ answer. refused_other BadPriority (λ same. omega arith) answer))
+  by_row ReadOnly property pattern = λ answer. refused_other NotWritable (λ same. omega arith) answer
 
   pub only_eleven : (p : Parameters) (property : Property) (pattern : ℕ) → (alone t o (change_of p property pattern)).answer ≡ Refused 11
       → Outside (row_of p property) (real pattern)

@@ -175,7 +175,7 @@ module _ (c : Settings) (s : Slots) (x y : ℕ) (starts : Starts c s x) (inside 
   later {a} {b} {v} n d t o l h =
       subst (λ (k : ℕ). Seen c s x a b v (ticks k t o)) (let e : d + (n - d) ≡ n = omega arith in e) (rw (ticks_add d (n - d) t o) h)
 
-  timer_at_lem : {n : ℕ} (k : ℕ) (m m' : Timer) → m' ≡ m → k ≤ n → TimerAfter n m → TimerAfter k m'
+  timer_at_lem : {n : ℕ} (k : ℕ) (m m' : Option Timer) → m' ≡ m → k ≤ n → TimerAfter n m → TimerAfter k m'
   timer_at_lem k m m' e l a = rw e (timer_earlier m l a)
 
   module _ (t : ℕ) (o : Output) where

@@ -1,6 +1,6 @@
 -- WRITE, THEN READ: kind 04 of property n with x, answered Done; then kind 05 of n answers what was written,
 -- and every other property that is kept answers as it did.
-use Rattle.std.specs.Prelude.{Option, Some, None}
+use Rattle.std.specs.Prelude.{Option, Some, None, Ok, Err}
 use mathlib.Core.Path.{◌≡◌, refl, ap, ap₂, ◌∙◌}
 use mathlib.Core.Logic.{◌≢◌}
 use mathlib.Core.Bool.{Bool, true, false, false≢true}
@@ -27,8 +27,7 @@ use Rattle.lighting_outputs.specs.declared.Property.{Property}
 use Rattle.lighting_outputs.specs.declared.Property.TheVariants.{RelinquishDefault, FadeTime, RampRate, StepIncrement, BlinkEnable, BlinkTime, BlinkWarnDelay, MinValue, MaxValue, CommandPriority, ElapsedActiveTime, BinaryActiveValue, BinaryInactiveValue, Polarity}
 use Rattle.lighting_outputs.specs.declared.Range.{Range}
 use Rattle.lighting_outputs.specs.declared.Range.TheVariants.{Percent, Limit, Amount, Whole, Priority, ReadOnly}
-use Rattle.lighting_outputs.specs.declared.Request.{Request}
-use Rattle.lighting_outputs.specs.declared.Request.TheVariants.{Refuse, ToOutput}
+use Rattle.lighting_outputs.specs.Paper.Answers.{Request, refusal_number}
 use Rattle.lighting_outputs.specs.declared.OutputRequest.TheVariants.{Change}
 use Rattle.lighting_outputs.specs.declared.Output.{Output}
 use Rattle.lighting_outputs.specs.declared.Outcome.{Outcome}
@@ -42,6 +41,8 @@ use Rattle.lighting_outputs.proofs.Patterns.{amount_kept}
 use Rattle.lighting_outputs.proofs.Consequences.Alone.{alone}
 use Rattle.lighting_outputs.proofs.Rules.PrioritiesNamed.{NoPriority, priority_yes, priority_no}
 use Rattle.lighting_outputs.proofs.Consequences.Reads.{reads, refused}
+use Rattle.lighting_outputs.specs.declared.Refusal.TheVariants.{WholeOutOfRange, BadPriority, NotWritable, RealOutOfRange}
+use Rattle.lighting_outputs.specs.declared.Refusal.{Refusal}
 
 -- kind 04 of property n with x, at t: a frame of kind 04 whose byte 13 is n, and x the four after it
 abbrev pub writes : (p : Parameters) → ℕ → Output → ℕ → ℕ → Outcome
@@ -133,12 +134,12 @@ Keeps ReadOnly x v = ⊥
 
 -- WHAT EACH NUMBER ASKS, and when: 02, 05, 06, 07, 0A and 0B
 pub asked_rows : (p : Parameters) (x : ℕ) → map (λ (n : ℕ). change_of p (property_of n) x) (0x02 ∷ 0x05 ∷ 0x06 ∷ 0x07 ∷ 0x0a ∷ 0x0b ∷ [])
-    ≡ (when within 100 p.fade x then ToOutput (Change FadeTime x) else Refuse 12)
-    ∷ (when leb x 1 then ToOutput (Change BlinkEnable x) else Refuse 12)
-    ∷ (when leb x 86400000 then ToOutput (Change BlinkTime x) else Refuse 12)
-    ∷ (when leb x 86400000 then ToOutput (Change BlinkWarnDelay x) else Refuse 12)
-    ∷ (when is_priority x then ToOutput (Change CommandPriority (x - 1)) else Refuse 10)
-    ∷ (when eqb x 0 then ToOutput (Change ElapsedActiveTime x) else Refuse 12)
+    ≡ (when within 100 p.fade x then Ok (Change FadeTime x) else Err WholeOutOfRange)
+    ∷ (when leb x 1 then Ok (Change BlinkEnable x) else Err WholeOutOfRange)
+    ∷ (when leb x 86400000 then Ok (Change BlinkTime x) else Err WholeOutOfRange)
+    ∷ (when leb x 86400000 then Ok (Change BlinkWarnDelay x) else Err WholeOutOfRange)
+    ∷ (when is_priority x then Ok (Change CommandPriority (x - 1)) else Err BadPriority)
+    ∷ (when eqb x 0 then Ok (Change ElapsedActiveTime x) else Err WholeOutOfRange)
     ∷ []
 unfolding property_of numbered change_of change_by within when◌then◌else◌
 asked_rows p x =
@@ -169,28 +170,28 @@ module _ (p : Parameters) (t t' : ℕ) (o : Output) (x : ℕ) where
           activity = unfold after_events in w.activity;
         }
 
-    changes : (v : ℕ) → WriteRead t' o (changed o u v) n x → After (ToOutput (Change u v))
+    changes : (v : ℕ) → WriteRead t' o (changed o u v) n x → After (Ok (Change u v))
     unfolding served
     changes v w h = rw (write_done t o u v h) (judged_read (changed o u v) w)
 
-    turned_down : (r : ℕ) → After (Refuse r)
+    turned_down : (refusal : Refusal) → After (Err refusal)
     unfolding acted served unchanged
-    turned_down r h = refused h
+    turned_down refusal h = refused h
 
     to_level : (l : Option ℕ) → ((v : ℕ) → l ≡ Some v → WriteRead t' o (changed o u v) n x) → After (change_to u l)
     unfolding change_to
     to_level (Some v) f = changes v (f v refl)
-    to_level None f = turned_down 11
+    to_level None f = turned_down RealOutOfRange
 
     by_row : (r : Range) → ((v : ℕ) → Keeps r x v → WriteRead t' o (changed o u v) n x) → After (change_by r u x)
     unfolding change_by when◌then◌else◌
     by_row Percent f = to_level (level_of (real x)) f
     by_row Limit f = to_level (limit_of (real x)) f
-    by_row Amount f = by_bool (is_amount (real x)) (λ e. rw e (changes x (f x (refl, e)))) (λ e. rw e (turned_down 11))
-    by_row (Whole low high) f = by_bool (within low high x) (λ e. rw e (changes x (f x (refl, within_of low high x e)))) (λ e. rw e (turned_down 12))
+    by_row Amount f = by_bool (is_amount (real x)) (λ e. rw e (changes x (f x (refl, e)))) (λ e. rw e (turned_down RealOutOfRange))
+    by_row (Whole low high) f = by_bool (within low high x) (λ e. rw e (changes x (f x (refl, within_of low high x e)))) (λ e. rw e (turned_down WholeOutOfRange))
     by_row Priority f =
-        by_bool (is_priority x) (λ e. rw e (changes (x - 1) (f (x - 1) (refl, priority_of x e, priority_positive x e)))) (λ e. rw e (turned_down 10))
-    by_row ReadOnly f = turned_down 9
+        by_bool (is_priority x) (λ e. rw e (changes (x - 1) (f (x - 1) (refl, priority_of x e, priority_positive x e)))) (λ e. rw e (turned_down BadPriority))
+    by_row ReadOnly f = turned_down NotWritable
 
   -- levels
   pub write_01 : Then 0x01
@@ -340,13 +341,14 @@ module _ (p : Parameters) (t t' : ℕ) (o : Output) (x : ℕ) where
     inactive_not_below_lem v e h = rw (e, leb_no {a = suc o.settings.max} {b = o.settings.min} (omega arith), leb_yes {a = o.relay.active} {b = v} h)
 
   -- a request that is refused leaves the output as it is
-  pub refuses : (n r : ℕ) → change_of p (property_of n) x ≡ Refuse r → ((writes p t o n x).answer ≡ Refused r) × ((writes p t o n x).output ≡ o)
+  pub refuses : (n : ℕ) (refusal : Refusal) → change_of p (property_of n) x ≡ Err refusal
+      → ((writes p t o n x).answer ≡ Refused (refusal_number refusal)) × ((writes p t o n x).output ≡ o)
   unfolding acted served unchanged
-  refuses n r e = rw e (refl, refl)
+  refuses n refusal e = rw e (refl, refl)
 
   -- THE RANGES: 02 from 100 to the set's longest fade, else 12; 06 and 07 up to 86,400,000; 05 0 or 1; 0A a
   -- priority, else 10; 0B 0 alone
-  in_row : (low high : ℕ) (n : Property) → low ≤ x → x ≤ high → change_by (Whole low high) n x ≡ ToOutput (Change n x)
+  in_row : (low high : ℕ) (n : Property) → low ≤ x → x ≤ high → change_by (Whole low high) n x ≡ Ok (Change n x)
   unfolding change_by within when◌then◌else◌
   in_row low high n h k = rw (leb_yes {a = low} {b = x} h, leb_yes {a = x} {b = high} k)
 
@@ -354,7 +356,7 @@ module _ (p : Parameters) (t t' : ℕ) (o : Output) (x : ℕ) where
     -- a property but 08, 09, 17 and 18: Min stays at most Max, and the inactive value below the active one
     pub accepted : (n : Property) (v : ℕ) → (settings_with o.settings n v).min ≡ o.settings.min → (settings_with o.settings n v).max ≡ o.settings.max
         → (relay_with o.relay n v).active ≡ o.relay.active → (relay_with o.relay n v).inactive ≡ o.relay.inactive
-        → (alone t o (ToOutput (Change n v))).answer ≡ Done
+        → (alone t o (Ok (Change n v))).answer ≡ Done
     unfolding acted served done changed_unless min_over_max inactive_not_below when◌then◌else◌
     accepted n v e f g h =
         rw

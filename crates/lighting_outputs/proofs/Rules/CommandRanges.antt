@@ -1,5 +1,5 @@
 -- The ranges of a command's fields: what is taken is in range, and what each field met.
-use Rattle.std.specs.Prelude.{Option, Some, None, Float}
+use Rattle.std.specs.Prelude.{Option, Some, None, Float, Ok, Err}
 use mathlib.Core.Path.{◌≡◌, refl, sym, ap, ◌∙◌}
 use mathlib.Core.Bool.{true}
 use mathlib.Core.Logic.{◌≢◌}
@@ -8,7 +8,7 @@ use native.Mathlib.Omega.{arith}
 use lib.Dec.{eqb}
 use Rattle.lighting_levels.specs.Paper.Choice.{when◌then◌else◌}
 use Rattle.lighting_outputs.specs.Paper.Parameters.{Parameters}
-use Rattle.lighting_outputs.specs.Paper.Answers.{level_refusal}
+use Rattle.lighting_outputs.specs.Paper.Answers.{level_refusal, refusal_number, Request}
 use Rattle.lighting_levels.specs.Paper.Level.{level_of, amount_of}
 use Rattle.lighting_outputs.specs.Paper.Operations.{fields_of, duration_field}
 use Rattle.lighting_outputs.specs.Paper.Rows.{row_of, within, meets}
@@ -19,34 +19,36 @@ use Rattle.lighting_outputs.specs.declared.Operation.TheVariants.{Stop, FadeTo, 
 use Rattle.lighting_outputs.specs.declared.OperationFields.{OperationFields}
 use Rattle.lighting_outputs.specs.declared.Command.{Command}
 use Rattle.lighting_outputs.specs.declared.Property.TheVariants.{FadeTime}
-use Rattle.lighting_outputs.specs.declared.Request.TheVariants.{Refuse, ToOutput}
 use Rattle.lighting_outputs.specs.declared.OutputRequest.TheVariants.{Commands}
 use Rattle.lighting_levels.proofs.Split.{by_bool, by_eq}
 use Rattle.lighting_outputs.proofs.Rules.Tied.{within_of, meets_of}
 use Rattle.lighting_outputs.proofs.Rules.RequestInRange.{OperationInRange, RequestInRange}
+use Rattle.lighting_outputs.specs.declared.Refusal.{Refusal}
 
 -- RANGES. A refusal that a field may meet: none, or 11, or 12
-abbrev Fit : ℕ → Type 0
-Fit r = r ≢ 0 → 9 ≤ r
+abbrev Fit : Option Refusal → Type 0
+Fit (Some refusal) = 9 ≤ refusal_number refusal
+Fit None = Unit {0}
 
 level_fit : (x : Option ℕ) → Fit (level_refusal x)
-level_fit (Some v) n = absurd (n refl)
-level_fit None n = omega arith
+
+level_fit (Some v) = tt
+level_fit None = omega arith
 
 real_fit : (x : Option Float) → Fit (level_field_refusal x) × Fit (amount_field_refusal x)
 unfolding level_field_refusal amount_field_refusal
 real_fit (Some x) = (level_fit (level_of x), level_fit (amount_of x))
-real_fit None = ((λ n. absurd (n refl)), (λ n. absurd (n refl)))
+real_fit None = (tt, tt)
 
 time_fit : (p : Parameters) (x : Option ℕ) → Fit (time_field_refusal p x)
 unfolding time_field_refusal when◌then◌else◌
-time_fit p (Some l) =
-    by_bool (meets (row_of p FadeTime) l) (λ e. rw e (λ n. absurd (n refl))) (λ e. rw e (λ n. omega arith))
-time_fit p None = λ n. absurd (n refl)
+time_fit p (Some l) = by_bool (meets (row_of p FadeTime) l) (λ e. rw e tt) (λ e. rw e (omega arith))
+time_fit p None = tt
 
-first_fit : (a b : ℕ) → Fit a → Fit b → Fit (first_refusal a b)
-unfolding first_refusal when◌then◌else◌
-first_fit a b f g = by_eq a 0 (λ y e. rw e g) (λ y e. rw e f)
+first_fit : (a b : Option Refusal) → Fit a → Fit b → Fit (first_refusal a b)
+unfolding first_refusal
+first_fit (Some a) b f g = f
+first_fit None b f g = g
 
 pub fields_fit : (p : Parameters) (f : OperationFields) → Fit (fields_refusal p f)
 unfolding fields_refusal
@@ -55,17 +57,18 @@ fields_fit p f =
     (first_fit _ _ (real_fit f.rate).1 (first_fit _ _ (real_fit f.step).1 (time_fit p f.fade)))
 
 -- with none met, no field met one
-first_none : (a b : ℕ) → first_refusal a b ≡ 0 → (a ≡ 0) × (b ≡ 0)
-unfolding first_refusal when◌then◌else◌
-first_none a b = by_eq a 0 (λ y e. rw e (λ h. (y, h))) (λ y e. rw e (λ h. absurd (y h)))
+first_none : (a b : Option Refusal) → first_refusal a b ≡ None → (a ≡ None) × (b ≡ None)
+unfolding first_refusal
+first_none (Some a) b h = absurd (let z : ◌≡◌ {A = ℕ} 0 1 = cc in omega arith)
+first_none None b h = (refl, h)
 
 pub record NoneMet (p : Parameters) (f : OperationFields) : Type 0 where
-  pub level : level_field_refusal f.level ≡ 0
-  pub rate : amount_field_refusal f.rate ≡ 0
-  pub step : amount_field_refusal f.step ≡ 0
-  pub fade : time_field_refusal p f.fade ≡ 0
+  pub level : level_field_refusal f.level ≡ None
+  pub rate : amount_field_refusal f.rate ≡ None
+  pub step : amount_field_refusal f.step ≡ None
+  pub fade : time_field_refusal p f.fade ≡ None
 
-pub none_met : (p : Parameters) (f : OperationFields) → fields_refusal p f ≡ 0 → NoneMet p f
+pub none_met : (p : Parameters) (f : OperationFields) → fields_refusal p f ≡ None → NoneMet p f
 unfolding fields_refusal
 none_met p f h =
     let level = first_none _ _ h in
@@ -73,12 +76,12 @@ none_met p f h =
     let step = first_none _ _ rate.1 in
     record { level = level.0; rate = rate.0; step = step.0; fade = step.1 }
 
-time_good : (p : Parameters) (l : ℕ) → time_field_refusal p (Some l) ≡ 0 → meets (row_of p FadeTime) l ≡ true
+time_good : (p : Parameters) (l : ℕ) → time_field_refusal p (Some l) ≡ None → meets (row_of p FadeTime) l ≡ true
 unfolding time_field_refusal when◌then◌else◌
 time_good p l =
-    by_bool (meets (row_of p FadeTime) l) (λ e. rw e (λ h. refl)) (λ e. rw e (λ h. absurd (omega arith)))
+    by_bool (meets (row_of p FadeTime) l) (λ e. rw e (λ h. refl)) (λ e. rw e (λ h. absurd (let z : ◌≡◌ {A = ℕ} 0 1 = cc in omega arith)))
 
-operation_good : (p : Parameters) (o : Operation) → fields_refusal p (fields_of o) ≡ 0 → OperationInRange p o
+operation_good : (p : Parameters) (o : Operation) → fields_refusal p (fields_of o) ≡ None → OperationInRange p o
 unfolding fields_of
 operation_good p Stop h = tt
 operation_good p (FadeTo x) h = tt
@@ -100,14 +103,15 @@ command_with_duration_good p o (Some d) g =
     (by_bool (within 100 p.duration d) (λ e. rw e ((g, within_of 100 p.duration d e))) (λ e. rw e (omega arith))))
 command_with_duration_good p o None g = (g, tt)
 
+good_by : (p : Parameters) (refusal : Option Refusal) (o : Operation) (duration : Option ℕ) → Fit refusal → (refusal ≡ None → OperationInRange p o)
+    → RequestInRange p (command_request_by p refusal o duration)
+unfolding command_request_by
+good_by p (Some refusal) o duration f g = f
+good_by p None o duration f g = command_with_duration_good p o duration (g refl)
+
 pub command_of_good : (p : Parameters) (o : Operation) (duration : Option ℕ) → RequestInRange p (command_of p o duration)
-unfolding command_of command_request_by when◌then◌else◌
-command_of_good p o duration =
-    by_eq
-    (fields_refusal p (fields_of o))
-    0
-    (λ y e. rw e (command_with_duration_good p o duration (operation_good p o y)))
-    (λ y e. rw e (fields_fit p (fields_of o) y))
+unfolding command_of
+command_of_good p o duration = good_by p _ o duration (fields_fit p (fields_of o)) (operation_good p o)
 
 pub command_request_good : (p : Parameters) (o : Operation) (d : ℕ) → RequestInRange p (command_request p o d)
 unfolding command_request
@@ -116,17 +120,17 @@ command_request_good p o d = command_of_good p o (plain_duration d)
 -- A COMMAND THAT WAS TAKEN: its fields are in range, and it has the operation and the duration that were
 -- asked
 pub record Taken (p : Parameters) (o : Operation) (duration : Option ℕ) (k : Command) : Type 0 where
-  pub ranges : fields_refusal p (fields_of o) ≡ 0
+  pub ranges : fields_refusal p (fields_of o) ≡ None
   pub operation : k.operation ≡ o
   pub lasting : duration_field k.duration ≡ duration
 
-asked_for : {o : Operation} {d : Duration} (k : Command) → ToOutput (Commands (record { operation = o; duration = d })) ≡ ToOutput (Commands k) → (k.operation ≡ o) × (duration_field k.duration ≡ duration_field d)
+asked_for : {o : Operation} {d : Duration} (k : Command) → ◌≡◌ {A = Request} (Ok (Commands (record { operation = o; duration = d }))) (Ok (Commands k)) → (k.operation ≡ o) × (duration_field k.duration ≡ duration_field d)
 asked_for {o} {d} k h = let same : record { operation = o; duration = d } ≡ k = cc in (sym (ap (λ (c : Command). c.operation) same), sym (ap (λ (c : Command). duration_field c.duration) same))
 
-pub refused_never : {r : ℕ} (k : Command) → Refuse r ≡ ToOutput (Commands k) → ⊥
+pub refused_never : {refusal : Refusal} (k : Command) → ◌≡◌ {A = Request} (Err refusal) (Ok (Commands k)) → ⊥
 refused_never k h = let z : ◌≡◌ {A = ℕ} 0 1 = cc in omega arith
 
-durations : (p : Parameters) (o : Operation) (duration : Option ℕ) (k : Command) → command_with_duration p o duration ≡ ToOutput (Commands k)
+durations : (p : Parameters) (o : Operation) (duration : Option ℕ) (k : Command) → command_with_duration p o duration ≡ Ok (Commands k)
     → (k.operation ≡ o) × (duration_field k.duration ≡ duration)
 unfolding command_with_duration command_lasting duration_field when◌then◌else◌
 durations p o (Some d) k =
@@ -135,9 +139,14 @@ durations p o (Some d) k =
     (λ z e. rw e (by_bool (within 100 p.duration d) (λ q. rw q (λ h. asked_for k h)) (λ q. rw q (λ h. absurd (refused_never k h)))))
 durations p o None k = λ h. asked_for k h
 
-pub command_taken : (p : Parameters) (o : Operation) (duration : Option ℕ) (k : Command) → command_of p o duration ≡ ToOutput (Commands k) → Taken p o duration k
-unfolding command_of command_request_by when◌then◌else◌
-command_taken p o duration k =
-    by_eq (fields_refusal p (fields_of o)) 0
-    (λ z e. rw e (λ h. let d = durations p o duration k h in record { ranges = z; operation = d.0; lasting = d.1 }))
-    (λ z e. rw e (λ h. absurd (refused_never k h)))
+taken_by : (p : Parameters) (refusal : Option Refusal) (o : Operation) (duration : Option ℕ) (k : Command)
+    → command_request_by p refusal o duration ≡ Ok (Commands k)
+    → (refusal ≡ None) × (k.operation ≡ o) × (duration_field k.duration ≡ duration)
+unfolding command_request_by
+taken_by p (Some refusal) o duration k h = absurd (refused_never k h)
+taken_by p None o duration k h = let d = durations p o duration k h in (refl, d.0, d.1)
+
+pub command_taken : (p : Parameters) (o : Operation) (duration : Option ℕ) (k : Command) → command_of p o duration ≡ Ok (Commands k) → Taken p o duration k
+unfolding command_of
+command_taken p o duration k h =
+    let t = taken_by p _ o duration k h in record { ranges = t.0; operation = t.1; lasting = t.2 }

@@ -13,7 +13,6 @@ use Rattle.lighting_outputs.specs.declared.Warning.{Warning}
 use Rattle.lighting_outputs.specs.declared.Activity.{Activity}
 use Rattle.lighting_outputs.specs.declared.Activity.TheVariants.{Still, Moving, Warned}
 use Rattle.lighting_outputs.specs.declared.Timer.{Timer}
-use Rattle.lighting_outputs.specs.declared.Timer.TheVariants.{Off, Running}
 use Rattle.lighting_outputs.specs.declared.Output.{Output}
 use Rattle.lighting_outputs.specs.Paper.Slots.{Slots, slot_count, slot16, slot6, is_live, winner, slot}
 use Rattle.lighting_outputs.specs.Paper.Value.{present_value}
@@ -89,9 +88,9 @@ Acts p t c s Still = is_live s slot6 ≡ false
 Acts p t c s (Moving m) = Moves p t c s m
 Acts p t c s (Warned w) = Warns t s w
 
-abbrev pub Timed : ℕ → Timer → Type 0
-Timed t Off = Unit {0}
-Timed t (Running slot due) = Slot slot × (t < due)
+abbrev pub Timed : ℕ → Option Timer → Type 0
+Timed t None = Unit {0}
+Timed t (Some timer) = Slot timer.slot × (t < timer.due)
 
 pub record RelayInRange (p : Parameters) (r : Relay) : Type 0 where
   pub active : Meets (row_of p BinaryActiveValue) r.active

@@ -1,5 +1,5 @@
 -- What a write of a property leaves meets the property's row, whichever it is.
-use Rattle.std.specs.Prelude.{Option, Some, None}
+use Rattle.std.specs.Prelude.{Option, Some, None, Ok}
 use mathlib.Core.Path.{◌≡◌, refl, sym, ap, ◌∙◌}
 use mathlib.Core.Bool.{true, false≢true}
 use mathlib.Core.List.{List, [], ◌∷◌}
@@ -16,7 +16,6 @@ use Rattle.lighting_outputs.specs.declared.Property.{Property}
 use Rattle.lighting_outputs.specs.declared.Property.TheVariants.{RelinquishDefault, FadeTime, RampRate, StepIncrement, BlinkEnable, BlinkTime, BlinkWarnDelay, MinValue, MaxValue, CommandPriority, ElapsedActiveTime, PresentValue, ProgressValue, InProcess, LastOperation, LastLevel, LastRate, LastStep, LastFadeTime, LastDuration, BinaryActiveValue, BinaryInactiveValue, Polarity, BinaryPresentValue, RelayState, SlotValue, Unknown}
 use Rattle.lighting_outputs.specs.declared.Range.{Range}
 use Rattle.lighting_outputs.specs.declared.Range.TheVariants.{Percent, Limit, Amount, Whole, Priority, ReadOnly}
-use Rattle.lighting_outputs.specs.declared.Request.TheVariants.{ToOutput}
 use Rattle.lighting_outputs.specs.declared.OutputRequest.TheVariants.{Change}
 use Rattle.lighting_levels.proofs.Split.{by_bool, by_eq, by_le, by_lt, leb_yes, le_of, eq_of, eqb_hit, eqb_miss}
 use Rattle.lighting_levels.proofs.Ranges.{level_units_lem, limit_units}
@@ -24,6 +23,7 @@ use Rattle.lighting_outputs.proofs.Rules.Facts.{Slot, Meets}
 use Rattle.lighting_outputs.proofs.Rules.Tied.{within_of, slot_of}
 use Rattle.lighting_outputs.proofs.Rules.RequestInRange.{RequestInRange}
 use Rattle.lighting_outputs.specs.Paper.Slots.{slot_count}
+use Rattle.lighting_outputs.specs.Paper.Answers.{refusal_number}
 
 -- A WRITE's request is good, by the row
 pub priority_of : (n : ℕ) → is_priority n ≡ true → Slot (n - 1)
@@ -31,13 +31,13 @@ unfolding is_priority when◌then◌else◌
 priority_of n h = by_eq n 0 (λ z e. absurd (false≢true (rw e at h))) (λ z e. slot_of (n - 1) (rw e at h))
 
 to_good : (p : Parameters) (n : Property) (l : Option ℕ)
-    → ((v : ℕ) → l ≡ Some v → RequestInRange p (ToOutput (Change n v))) → RequestInRange p (change_to n l)
+    → ((v : ℕ) → l ≡ Some v → RequestInRange p (Ok (Change n v))) → RequestInRange p (change_to n l)
 unfolding change_to
 to_good p n (Some v) f = f v refl
 to_good p n None f = omega arith
 
 row_good : (p : Parameters) (r : Range) (n : Property) (x : ℕ)
-    → ((v : ℕ) → Meets r v → RequestInRange p (ToOutput (Change n v))) → RequestInRange p (change_by r n x)
+    → ((v : ℕ) → Meets r v → RequestInRange p (Ok (Change n v))) → RequestInRange p (change_by r n x)
 unfolding change_by when◌then◌else◌
 row_good p Percent n x f = to_good p n (level_of (real x)) (λ v e. let u = level_units_lem (real x) v e in f v (record { least = u.0; most = u.1 }))
 row_good p Limit n x f = to_good p n (limit_of (real x)) (λ v e. let u = limit_units (real x) v e in f v (record { least = u.0; most = u.1 }))

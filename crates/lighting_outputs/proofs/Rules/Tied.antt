@@ -1,5 +1,6 @@
 -- The test of the record rules holds exactly where their facts do. An array's length is part of the code's
 -- type.
+use Rattle.std.specs.Prelude.{Option, Some, None}
 use mathlib.Core.Path.{◌≡◌, refl, sym, ◌∙◌}
 use mathlib.Core.Bool.{Bool, true, false, false≢true}
 use Prim.Native.Nat.{ℕ, ◌-◌, ◌≤◌, ◌<◌}
@@ -16,7 +17,6 @@ use Rattle.lighting_outputs.specs.declared.Movement.{Movement}
 use Rattle.lighting_outputs.specs.declared.Activity.{Activity}
 use Rattle.lighting_outputs.specs.declared.Activity.TheVariants.{Still, Moving, Warned}
 use Rattle.lighting_outputs.specs.declared.Timer.{Timer}
-use Rattle.lighting_outputs.specs.declared.Timer.TheVariants.{Off, Running}
 use Rattle.lighting_outputs.specs.declared.Output.{Output}
 use Rattle.lighting_outputs.specs.Paper.Slots.{slot_count, slot6, Slots, is_live, winner, slot}
 use Rattle.lighting_outputs.proofs.Priorities.Mask.{slot_is}
@@ -82,10 +82,10 @@ acts_of p t c s Still h = not-true (is_live s slot6) h
 acts_of p t c s (Moving m) h = moves_of p t c s m (unless h).0 (unless h).1
 acts_of p t c s (Warned w) h = search (parts, within_of, level_of_lem)
 
-timed_of : (t : ℕ) (m : Timer) → timer_sound t m ≡ true → Timed t m
+timed_of : (t : ℕ) (m : Option Timer) → timer_sound t m ≡ true → Timed t m
 unfolding timer_sound
-timed_of t Off h = tt
-timed_of t (Running slot due) h = search (parts, slot_of)
+timed_of t None h = tt
+timed_of t (Some timer) h = search (parts, slot_of)
 
 agrees_of : (one other : Bool) → agrees one other ≡ true → one ≡ other
 unfolding agrees when◌then◌else◌
@@ -150,10 +150,10 @@ acts_yes p t c s Still h = rw h
 acts_yes p t c s (Moving m) h = unfold when◌then◌else◌ in rw h.six (moves_yes p t c s m h)
 acts_yes p t c s (Warned w) h = search (tests, within_yes, level_yes)
 
-timed_yes : (t : ℕ) (m : Timer) → Timed t m → timer_sound t m ≡ true
+timed_yes : (t : ℕ) (m : Option Timer) → Timed t m → timer_sound t m ≡ true
 unfolding timer_sound
-timed_yes t Off h = refl
-timed_yes t (Running slot due) h = search (tests, slot_yes)
+timed_yes t None h = refl
+timed_yes t (Some timer) h = search (tests, slot_yes)
 
 agrees_yes : (one other : Bool) → one ≡ other → agrees one other ≡ true
 unfolding agrees when◌then◌else◌
@@ -184,9 +184,9 @@ tested_calm p t o h =
       judged = tested_judged p t o h;
     }
   where
-    timer : (m : Timer) → Timed t m → MomentAfter t (timer_due m)
-    timer Off k = unfold timer_due in tt
-    timer (Running slot due) k = unfold timer_due in k.1
+    timer : (m : Option Timer) → Timed t m → MomentAfter t (timer_due m)
+    timer None k = unfold timer_due in tt
+    timer (Some m) k = unfold timer_due in k.1
 
     activity : (a : Activity) → Acts p t o.settings o.slots a → MomentAfter t (activity_due a)
     activity Still k = unfold activity_due in tt

@@ -24,7 +24,6 @@ use Rattle.lighting_outputs.specs.declared.Warning.{Warning}
 use Rattle.lighting_outputs.specs.declared.Activity.{Activity}
 use Rattle.lighting_outputs.specs.declared.Activity.TheVariants.{Still, Moving, Warned}
 use Rattle.lighting_outputs.specs.declared.Timer.{Timer}
-use Rattle.lighting_outputs.specs.declared.Timer.TheVariants.{Off, Running}
 use Rattle.lighting_outputs.specs.declared.Relay.{Relay}
 use Rattle.lighting_outputs.specs.declared.Output.{Output}
 use Rattle.lighting_outputs.specs.Paper.Slots.{Slots}
@@ -91,31 +90,31 @@ fire_due_fire t o j =
     (λ e'. rw (e, e') (sym (idle t o e e' ∙ judged_stays o j))))
 
 -- and where no duration is due, none does anything
-abbrev pub TimerAfter : ℕ → Timer → Type 0
-TimerAfter t Off = Unit {0}
-TimerAfter t (Running q d) = t < d
+abbrev pub TimerAfter : ℕ → Option Timer → Type 0
+TimerAfter t None = Unit {0}
+TimerAfter t (Some timer) = t < timer.due
 
-pub timer_earlier : {t t' : ℕ} (m : Timer) → t ≤ t' → TimerAfter t' m → TimerAfter t m
-timer_earlier Off h a = tt
-timer_earlier (Running q d) h a = omega arith
+pub timer_earlier : {t t' : ℕ} (m : Option Timer) → t ≤ t' → TimerAfter t' m → TimerAfter t m
+timer_earlier None h a = tt
+timer_earlier (Some timer) h a = omega arith
 
-timer_moment : (t : ℕ) (m : Timer) → TimerAfter t m → MomentAfter t (timer_due m)
+timer_moment : (t : ℕ) (m : Option Timer) → TimerAfter t m → MomentAfter t (timer_due m)
 unfolding timer_due
-timer_moment t Off a = tt
-timer_moment t (Running q d) a = a
+timer_moment t None a = tt
+timer_moment t (Some timer) a = a
 
 pub both_after : (t : ℕ) (o : Output) → TimerAfter t o.timer → MomentAfter t (activity_due o.activity) → After t o
 both_after t o a b = record { all = (timer_moment t o.timer a, (b, tt)) }
 
-pub timer_quiet : (t : ℕ) (m : Timer) → TimerAfter t m → timer_at t m ≡ m
+pub timer_quiet : (t : ℕ) (m : Option Timer) → TimerAfter t m → timer_at t m ≡ m
 unfolding timer_at when◌then◌else◌
 timer_quiet t m a = rw (not_due t (timer_due m) (timer_moment t m a))
 
-pub expired_quiet : (t : ℕ) (m : Timer) (s : Slots) → TimerAfter t m → expired t m s ≡ s
+pub expired_quiet : (t : ℕ) (m : Option Timer) (s : Slots) → TimerAfter t m → expired t m s ≡ s
 unfolding expired when◌then◌else◌
 expired_quiet t m s a = rw (not_due t (timer_due m) (timer_moment t m a))
 
-pub end_movement_on_expiry_quiet : (t : ℕ) (m : Timer) (a : Activity) → TimerAfter t m → end_movement_on_expiry t m a ≡ a
+pub end_movement_on_expiry_quiet : (t : ℕ) (m : Option Timer) (a : Activity) → TimerAfter t m → end_movement_on_expiry t m a ≡ a
 unfolding end_movement_on_expiry when◌then◌else◌
 end_movement_on_expiry_quiet t m a h = rw (not_due t (timer_due m) (timer_moment t m h))
 
@@ -224,7 +223,7 @@ not_yet n t None p a e = tt
 not_yet n t (Some d) p a e = by_eq d t (λ q e'. absurd (false≢true (sym e ∙ e'))) (λ q e'. omega arith)
 
 -- a duration leaves what is under way, or ends it
-end_movement_on_expiry_either : (P : Activity → Type 0) (t : ℕ) (m : Timer) (a : Activity) → P Still → P a → P (end_movement_on_expiry t m a)
+end_movement_on_expiry_either : (P : Activity → Type 0) (t : ℕ) (m : Option Timer) (a : Activity) → P Still → P a → P (end_movement_on_expiry t m a)
 unfolding end_movement_on_expiry when◌then◌else◌
 end_movement_on_expiry_either P t m a s h = by_bool (is_due t (timer_due m)) (λ e. rw e (by_timer m)) (λ e. rw e h)
   where
@@ -233,9 +232,9 @@ end_movement_on_expiry_either P t m a s h = by_bool (is_due t (timer_due m)) (λ
     by_owner q (Moving n) k = unfold end_movement_of in by_eq n.owner q (λ p e. rw e s) (λ p e. rw e k)
     by_owner q (Warned w) k = unfold end_movement_of in k
 
-    by_timer : (n : Timer) → P (end_movement_by n a)
-    by_timer Off = unfold end_movement_by in h
-    by_timer (Running q d) = unfold end_movement_by in by_owner q a h
+    by_timer : (n : Option Timer) → P (end_movement_by n a)
+    by_timer None = unfold end_movement_by in h
+    by_timer (Some timer) = unfold end_movement_by in by_owner timer.slot a h
 
 phase_after : (t : ℕ) (w : Warning) (p : Phase) → eqb (phase_end w p) t ≡ true → MomentAfter t (activity_due (next_phase w p))
 unfolding phase_end next_phase delayed activity_due when◌then◌else◌

@@ -1,5 +1,5 @@
 -- A tick keeps the record rules, and so does the engine's way.
-use Rattle.std.specs.Prelude.{Some, None}
+use Rattle.std.specs.Prelude.{Some, None, Option}
 use mathlib.Core.Path.{◌≡◌, ◌∙◌}
 use mathlib.Core.Logic.{◌≢◌}
 use mathlib.Core.Bool.{true}
@@ -16,7 +16,6 @@ use Rattle.lighting_outputs.specs.declared.Warning.{Warning}
 use Rattle.lighting_outputs.specs.declared.Activity.{Activity}
 use Rattle.lighting_outputs.specs.declared.Activity.TheVariants.{Still, Moving, Warned}
 use Rattle.lighting_outputs.specs.declared.Timer.{Timer}
-use Rattle.lighting_outputs.specs.declared.Timer.TheVariants.{Off, Running}
 use Rattle.lighting_outputs.specs.declared.Relay.{Relay}
 use Rattle.lighting_outputs.specs.declared.Output.{Output}
 use Rattle.lighting_outputs.specs.Paper.Slots.{slot6, Slots, is_live, emptied}
@@ -53,16 +52,16 @@ end_movement_of_acts p t c s q (Moving m) g f h =
         unfold present_value in search arith
 end_movement_of_acts p t c s q (Warned w) g f h = let k = six_kept s f.size q None g.inside g.free in search
 
-expired_effect : (p : Parameters) (t d : ℕ) (c : Settings) (s : Slots) (m : Timer) (a : Activity) → Timed t m → Filled s → Acts p t c s a
+expired_effect : (p : Parameters) (t d : ℕ) (c : Settings) (s : Slots) (m : Option Timer) (a : Activity) → Timed t m → Filled s → Acts p t c s a
     → Effect p t c (expired d m s) (end_movement_on_expiry d m a)
 unfolding expired end_movement_on_expiry when◌then◌else◌
 expired_effect p t d c s m a k f h =
     by_bool (is_due d (timer_due m)) (λ e. rw e (falls m k)) (λ e. rw e (record { slots = f; activity = h }))
   where
-    falls : (n : Timer) → Timed t n → Effect p t c (emptied_by n s) (end_movement_by n a)
-    falls Off k = unfold emptied_by end_movement_by in (record { slots = f; activity = h })
-    falls (Running q e) k = unfold emptied_by end_movement_by in
-        (record { slots = put_filled s q None f k.0.inside tt; activity = end_movement_of_acts p t c s q a k.0 f h })
+    falls : (n : Option Timer) → Timed t n → Effect p t c (emptied_by n s) (end_movement_by n a)
+    falls None k = unfold emptied_by end_movement_by in (record { slots = f; activity = h })
+    falls (Some timer) k = unfold emptied_by end_movement_by in
+        (record { slots = put_filled s timer.slot None f k.0.inside tt; activity = end_movement_of_acts p t c s timer.slot a k.0 f h })
 
 -- THE WARNING AND THE MOVEMENT
 phase_effect : (p : Parameters) (t : ℕ) (c : Settings) (s : Slots) (w : Warning) (z : Phase) → Filled s → is_live s slot6 ≡ true → Within 6 15 w.owner
@@ -100,10 +99,10 @@ next_effect p t c s (Warned w) f h =
     (λ z e. rw e (phase_effect p (suc t) c s w w.phase f h.six h.owner h.level z))
     (λ z e. rw e (record { slots = f; activity = search arith }))
 
-next_timer : (t : ℕ) (m : Timer) → Timed t m → Timed (suc t) (timer_at (suc t) m)
+next_timer : (t : ℕ) (m : Option Timer) → Timed t m → Timed (suc t) (timer_at (suc t) m)
 unfolding timer_at timer_due is_due when◌then◌else◌
-next_timer t Off h = tt
-next_timer t (Running q d) h = by_eq d (suc t) (λ z e. rw e tt) (λ z e. rw e (h.0, omega (arith, h.1)))
+next_timer t None h = tt
+next_timer t (Some timer) h = by_eq timer.due (suc t) (λ z e. rw e tt) (λ z e. rw e (h.0, omega (arith, h.1)))
 
 -- judging leaves what the relay is set to
 switched_range : (p : Parameters) (v : ℕ) (r : Relay) → RelayInRange p r → RelayInRange p (switched v r)

@@ -1,7 +1,7 @@
 -- What a first arrival does: 'Each accepted frame first brings the panel to its time, then acts'. The engine
 -- and the plain panel share it.
 --
-use Rattle.std.specs.Prelude.{Bool, List, ℕ, get_or, set}
+use Rattle.std.specs.Prelude.{Bool, List, ℕ, get_or, set, Ok, Err}
 use Rattle.lighting_levels.specs.Paper.Choice.{when◌then◌else◌}
 use Rattle.lighting_outputs.specs.Paper.Relay.{inactive_not_below}
 use Rattle.lighting_outputs.specs.Paper.Passing.{after_events}
@@ -10,14 +10,14 @@ use Rattle.lighting_outputs.specs.Paper.Properties.{settings_with, relay_with, c
 use Rattle.lighting_outputs.specs.Paper.Commands.{commanded}
 use Rattle.lighting_outputs.specs.Paper.Fresh.{fresh_output}
 use Rattle.lighting_outputs.specs.declared.Property.{Property}
-use Rattle.lighting_outputs.specs.declared.Request.{Request}
-use Rattle.lighting_outputs.specs.declared.Request.TheVariants.{Refuse, ToOutput}
+use Rattle.lighting_outputs.specs.Paper.Answers.{Request, refusal_number}
 use Rattle.lighting_outputs.specs.declared.OutputRequest.{OutputRequest}
 use Rattle.lighting_outputs.specs.declared.OutputRequest.TheVariants.{Write, Empty, Change, Read, Commands}
 use Rattle.lighting_outputs.specs.declared.Answer.{Answer}
 use Rattle.lighting_outputs.specs.declared.Answer.TheVariants.{Done, Refused}
 use Rattle.lighting_outputs.specs.declared.Output.{Output}
 use Rattle.lighting_outputs.specs.declared.Outcome.{Outcome}
+use Rattle.lighting_outputs.specs.declared.Refusal.TheVariants.{MinOverMax, RelayNotInOrder}
 
 -- the output changed, and its relay judged (`after_events`, Passing.antt); or left as it was
 unfoldable pub done : Output → Outcome
@@ -30,7 +30,7 @@ unchanged o a = record { output = o; answer = a }
 -- its active one (unordered): 16, 'tested after 13, leaving what 13 leaves' (§3)
 unfoldable pub changed_unless : Bool → Bool → Output → Property → ℕ → Outcome
 changed_unless m unordered o property value =
-    when m then unchanged o (Refused 13) else when unordered then unchanged o (Refused 16) else done (changed o property value)
+    when m then unchanged o (Refused (refusal_number MinOverMax)) else when unordered then unchanged o (Refused (refusal_number RelayNotInOrder)) else done (changed o property value)
 
 -- A REQUEST TO ONE OUTPUT: 'does what its kind calls for', or refuses 13 or 16. A read of an unknown
 -- property is 9. Whether its station is a tenant (§8) is asked by a read alone
@@ -50,7 +50,7 @@ pub record Served : Type 0 where
   pub answer : Answer
 
 unfoldable pub served : Bool → ℕ → List Output → ℕ → Request → Served
-served tenant t outputs i (Refuse r) = record { outputs = outputs; answer = Refused r }
-served tenant t outputs i (ToOutput request) =
+served tenant t outputs i (Err r) = record { outputs = outputs; answer = Refused (refusal_number r) }
+served tenant t outputs i (Ok request) =
     let done = acted tenant t (get_or outputs i fresh_output) request in
     record { outputs = set outputs i done.output; answer = done.answer }

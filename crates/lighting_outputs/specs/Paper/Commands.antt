@@ -1,19 +1,18 @@
 -- 'Writes and commands': the eleven commands and the duration. A command acts on slot p,
 -- Lighting_Command_Priority.
-use Rattle.std.specs.Prelude.{ℕ, ◌+◌, ◌-◌, ◌*◌, ◌/◌, max, eqb, Float}
+use Rattle.std.specs.Prelude.{ℕ, ◌+◌, ◌-◌, ◌*◌, ◌/◌, max, eqb, Float, Option, None}
 use Rattle.lighting_levels.specs.Paper.Choice.{when◌then◌else◌}
 use Rattle.lighting_levels.specs.Paper.Level.{level_units, amount_units, distance}
 use Rattle.lighting_outputs.specs.Paper.Slots.{Slots, slot6, winner, emptied, filled}
 use Rattle.lighting_outputs.specs.Paper.Value.{clamp, clamp_lit, progress_value}
 use Rattle.lighting_outputs.specs.Paper.Record.{with_command}
-use Rattle.lighting_outputs.specs.Paper.Passing.{end_movement_of}
+use Rattle.lighting_outputs.specs.Paper.Passing.{end_movement_of, running}
 use Rattle.lighting_outputs.specs.declared.Settings.{Settings}
 use Rattle.lighting_outputs.specs.declared.Pace.{Pace}
 use Rattle.lighting_outputs.specs.declared.Pace.TheVariants.{Fade, Ramp}
 use Rattle.lighting_outputs.specs.declared.Activity.{Activity}
 use Rattle.lighting_outputs.specs.declared.Activity.TheVariants.{Still, Moving, Warned}
 use Rattle.lighting_outputs.specs.declared.Timer.{Timer}
-use Rattle.lighting_outputs.specs.declared.Timer.TheVariants.{Off, Running}
 use Rattle.lighting_outputs.specs.declared.Duration.{Duration}
 use Rattle.lighting_outputs.specs.declared.Duration.TheVariants.{Lasts, Cancels, Omitted}
 use Rattle.lighting_outputs.specs.declared.Operation.{Operation}
@@ -124,10 +123,10 @@ effect t c f s a Relinquish = relinquished c s a
 
 -- 'Duration d above zero, with every command: slot p empties d ms later. [..] a new one replaces it, 0
 -- cancels it, Absent leaves it running'
-unfoldable pub timed : ℕ → ℕ → Timer → Duration → Timer
-timed t p running (Lasts d) = Running p (t + d)
-timed t p running Cancels = Off
-timed t p running Omitted = running
+unfoldable pub timed : ℕ → ℕ → Option Timer → Duration → Option Timer
+timed t p timer (Lasts d) = running p (t + d)
+timed t p timer Cancels = None
+timed t p timer Omitted = timer
 
 -- 'It starts from Progress_Value before it': f
 unfoldable pub commanded_from : ℕ → Output → ℕ → Command → Output

@@ -1,12 +1,11 @@
 -- 'An output's record': a fresh output and a fresh station.
-use Rattle.std.specs.Prelude.{false, ℕ, ◌*◌, replicate}
+use Rattle.std.specs.Prelude.{false, ℕ, ◌*◌, replicate, None}
 use Rattle.lighting_outputs.specs.Paper.Parameters.{Parameters, fresh_fade}
 use Rattle.lighting_levels.specs.Paper.Level.{least_level, greatest_level, real}
 use Rattle.lighting_outputs.specs.Paper.Slots.{slot_count, slot16}
 use Rattle.lighting_outputs.specs.declared.Settings.{Settings}
 use Rattle.lighting_outputs.specs.declared.Relay.{Relay}
 use Rattle.lighting_outputs.specs.declared.Activity.TheVariants.{Still}
-use Rattle.lighting_outputs.specs.declared.Timer.TheVariants.{Off}
 use Rattle.lighting_outputs.specs.declared.Duration.TheVariants.{Omitted}
 use Rattle.lighting_outputs.specs.declared.Operation.TheVariants.{Stop}
 use Rattle.lighting_outputs.specs.declared.Output.{Output}
@@ -39,7 +38,7 @@ fresh_with fade =
       settings = fresh_settings fade;
       slots = record { live = 0; levels = replicate slot_count 0 };
       activity = Still;
-      timer = Off;
+      timer = None;
       burning = 0;
       last = record { operation = Stop; duration = Omitted };
       relay = fresh_relay;

@@ -8,7 +8,6 @@ use Rattle.lighting_outputs.specs.declared.Warning.{Warning}
 use Rattle.lighting_outputs.specs.declared.Activity.{Activity}
 use Rattle.lighting_outputs.specs.declared.Activity.TheVariants.{Still, Moving, Warned}
 use Rattle.lighting_outputs.specs.declared.Timer.{Timer}
-use Rattle.lighting_outputs.specs.declared.Timer.TheVariants.{Off, Running}
 use Rattle.lighting_outputs.specs.declared.Output.{Output}
 use Rattle.lighting_outputs.specs.Paper.Slots.{Slots, slot6, emptied, filled}
 use Rattle.lighting_outputs.specs.Paper.Value.{present_value, lit}
@@ -24,10 +23,14 @@ lit_milliseconds from (suc n) o = (when lit from o then 1 else 0) + lit_millisec
 unfoldable pub with_burned : ℕ → ℕ → Output → Output
 with_burned from n o = with_burning o (o.burning + lit_milliseconds from n o)
 
+-- a duration that is running
+abbrev pub running : ℕ → ℕ → Option Timer
+running slot due = Some (record { slot = slot; due = due })
+
 -- WHEN SOMETHING FALLS DUE: a running duration at its own moment
-unfoldable pub timer_due : Timer → Option ℕ
-timer_due Off = None
-timer_due (Running slot due) = Some due
+unfoldable pub timer_due : Option Timer → Option ℕ
+timer_due None = None
+timer_due (Some timer) = Some timer.due
 
 -- a warning at the end of its phase: 'Slot 6 holds 0 for B ms', until the turn, 'then Y for D ms'
 unfoldable pub phase_end : Warning → Phase → ℕ
@@ -48,14 +51,14 @@ is_due t None = false
 is_due t (Some d) = eqb d t
 
 -- WHAT FALLS DUE at the moment t. 'then a due duration empties its slot': the timer and the slots after it
-unfoldable pub timer_at : ℕ → Timer → Timer
-timer_at t timer = when is_due t (timer_due timer) then Off else timer
+unfoldable pub timer_at : ℕ → Option Timer → Option Timer
+timer_at t timer = when is_due t (timer_due timer) then None else timer
 
-unfoldable pub emptied_by : Timer → Slots → Slots
-emptied_by Off s = s
-emptied_by (Running slot due) s = emptied s slot
+unfoldable pub emptied_by : Option Timer → Slots → Slots
+emptied_by None s = s
+emptied_by (Some timer) s = emptied s timer.slot
 
-unfoldable pub expired : ℕ → Timer → Slots → Slots
+unfoldable pub expired : ℕ → Option Timer → Slots → Slots
 expired t timer s = when is_due t (timer_due timer) then emptied_by timer s else s
 
 -- '(ending a movement that slot owned)'
@@ -64,11 +67,11 @@ end_movement_of q Still = Still
 end_movement_of q (Moving m) = when eqb m.owner q then Still else Moving m
 end_movement_of q (Warned w) = Warned w
 
-unfoldable pub end_movement_by : Timer → Activity → Activity
-end_movement_by Off a = a
-end_movement_by (Running slot due) a = end_movement_of slot a
+unfoldable pub end_movement_by : Option Timer → Activity → Activity
+end_movement_by None a = a
+end_movement_by (Some timer) a = end_movement_of timer.slot a
 
-unfoldable pub end_movement_on_expiry : ℕ → Timer → Activity → Activity
+unfoldable pub end_movement_on_expiry : ℕ → Option Timer → Activity → Activity
 end_movement_on_expiry t timer a = when is_due t (timer_due timer) then end_movement_by timer a else a
 
 -- the warning's phases follow one another, the second if D is above 0, and a movement is over at its last

@@ -1,9 +1,9 @@
 -- 'An output's record': the table of properties, what a write of each asks and changes, and what each reads
 -- as.
-use Rattle.std.specs.Prelude.{Bool, List, [], ◌∷◌, ℕ, ◌+◌, ◌-◌, ◌/◌, ◌%◌, min, ltb, leb, eqb, Float, Option, Some, None}
+use Rattle.std.specs.Prelude.{Bool, List, [], ◌∷◌, ℕ, ◌+◌, ◌-◌, ◌/◌, ◌%◌, min, ltb, leb, eqb, Float, Option, Some, None, Ok, Err}
 use Rattle.lighting_levels.specs.Paper.Choice.{when◌then◌else◌}
 use Rattle.lighting_outputs.specs.Paper.Parameters.{Parameters}
-use Rattle.lighting_outputs.specs.Paper.Answers.{level_refusal}
+use Rattle.lighting_outputs.specs.Paper.Answers.{level_refusal, refusal_number}
 use Rattle.lighting_levels.specs.Paper.Level.{real, bits, read_out, level_of, limit_of}
 use Rattle.lighting_outputs.specs.Paper.Slots.{Slots, slot}
 use Rattle.lighting_outputs.specs.Paper.Value.{present_value, progress_value, in_process}
@@ -25,9 +25,9 @@ use Rattle.lighting_outputs.specs.declared.Property.{Property}
 use Rattle.lighting_outputs.specs.declared.Property.TheVariants.{RelinquishDefault, FadeTime, RampRate, StepIncrement, BlinkEnable, BlinkTime, BlinkWarnDelay, MinValue, MaxValue, CommandPriority, ElapsedActiveTime, PresentValue, ProgressValue, InProcess, LastOperation, LastLevel, LastRate, LastStep, LastFadeTime, LastDuration, BinaryActiveValue, BinaryInactiveValue, Polarity, BinaryPresentValue, RelayState, SlotValue, Unknown}
 use Rattle.lighting_outputs.specs.declared.Range.{Range}
 use Rattle.lighting_outputs.specs.declared.Range.TheVariants.{Percent, Limit, Amount, Whole, Priority, ReadOnly}
-use Rattle.lighting_outputs.specs.declared.Request.{Request}
-use Rattle.lighting_outputs.specs.declared.Request.TheVariants.{Refuse, ToOutput}
+use Rattle.lighting_outputs.specs.Paper.Answers.{Request}
 use Rattle.lighting_outputs.specs.declared.OutputRequest.TheVariants.{Change}
+use Rattle.lighting_outputs.specs.declared.Refusal.TheVariants.{NotWritable, BadPriority, RealOutOfRange, WholeOutOfRange}
 
 -- THE TABLE: each property's number; 00 is none
 abbrev pub number_of : Property → ℕ
@@ -105,16 +105,16 @@ same one other = eqb (number_of one) (number_of other)
 -- that it meets: 'property unknown, or not writable' is 9, a priority's is 10, a REAL's 11, a whole number's
 -- 12
 unfoldable pub change_to : Property → Option ℕ → Request
-change_to property (Some v) = ToOutput (Change property v)
-change_to property None = Refuse (level_refusal None)
+change_to property (Some v) = Ok (Change property v)
+change_to property None = Err RealOutOfRange
 
 unfoldable pub change_by : Range → Property → ℕ → Request
 change_by Percent property x = change_to property (level_of (real x))
 change_by Limit property x = change_to property (limit_of (real x))
-change_by Amount property x = when is_amount (real x) then ToOutput (Change property x) else Refuse (level_refusal None)
-change_by (Whole low high) property x = when within low high x then ToOutput (Change property x) else Refuse 12
-change_by Priority property x = when is_priority x then ToOutput (Change property (x - 1)) else Refuse 10
-change_by ReadOnly property x = Refuse 9
+change_by Amount property x = when is_amount (real x) then Ok (Change property x) else Err RealOutOfRange
+change_by (Whole low high) property x = when within low high x then Ok (Change property x) else Err WholeOutOfRange
+change_by Priority property x = when is_priority x then Ok (Change property (x - 1)) else Err BadPriority
+change_by ReadOnly property x = Err NotWritable
 
 unfoldable pub change_of : Parameters → Property → ℕ → Request
 change_of p property x = change_by (row_of p property) property x
@@ -238,4 +238,4 @@ read_property tenant t o Polarity = Value (flag o.relay.reverse)
 read_property tenant t o BinaryPresentValue = Value (flag o.relay.binary)
 read_property tenant t o RelayState = Value (flag (relay_state o.relay))
 read_property tenant t o (SlotValue i) = when hidden tenant i then Absent else slot_answer o.slots i
-read_property tenant t o Unknown = Refused 9
+read_property tenant t o Unknown = Refused (refusal_number NotWritable)

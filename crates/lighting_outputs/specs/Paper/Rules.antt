@@ -1,6 +1,6 @@
 -- 'Record rules', as the test that the engine makes on every lent record. Slots are counted from 0: 7 to 16
 -- are 6 to 15.
-use Rattle.std.specs.Prelude.{Bool, true, false, not, ℕ, ◌+◌, ◌-◌, ltb, leb, eqb, get_or}
+use Rattle.std.specs.Prelude.{Bool, true, false, not, ℕ, ◌+◌, ◌-◌, ltb, leb, eqb, get_or, Option, Some, None}
 use Rattle.lighting_levels.specs.Paper.Choice.{when◌then◌else◌, ◌also◌, all_from}
 use Rattle.lighting_outputs.specs.Paper.Parameters.{Parameters, longest_movement}
 use Rattle.lighting_outputs.specs.Paper.Slots.{Slots, slot_count, slot16, slot6, is_live, winner}
@@ -16,7 +16,6 @@ use Rattle.lighting_outputs.specs.declared.Warning.{Warning}
 use Rattle.lighting_outputs.specs.declared.Activity.{Activity}
 use Rattle.lighting_outputs.specs.declared.Activity.TheVariants.{Still, Moving, Warned}
 use Rattle.lighting_outputs.specs.declared.Timer.{Timer}
-use Rattle.lighting_outputs.specs.declared.Timer.TheVariants.{Off, Running}
 use Rattle.lighting_outputs.specs.declared.Output.{Output}
 
 -- 'settings in range, Min at most Max': each meets the row of its property (Rows.antt). A flag is always in
@@ -76,9 +75,9 @@ unfoldable pub activity_sound : Parameters → ℕ → Settings → Slots → Ac
 activity_sound p t c s a = activity_by p t (is_live s slot6) (winner s) c.max (present_value c s) a
 
 -- 'no duration tied to slot 6', and its moment after panel time
-unfoldable pub timer_sound : ℕ → Timer → Bool
-timer_sound t Off = true
-timer_sound t (Running slot due) = is_slot slot also ltb t due
+unfoldable pub timer_sound : ℕ → Option Timer → Bool
+timer_sound t None = true
+timer_sound t (Some timer) = is_slot timer.slot also ltb t timer.due
 
 -- §3: 'both are in Relinquish_Default's range, the inactive value is below the active one, and
 -- Binary_Present_Value is as judging leaves it'. A polarity is always in range. v: Present_Value

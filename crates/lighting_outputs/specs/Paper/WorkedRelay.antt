@@ -5,7 +5,7 @@ use Rattle.std.specs.Prelude.{true, List, [], ◌∷◌, map, ℕ}
 use Rattle.lighting_levels.specs.Paper.Level.{real}
 use Rattle.lighting_outputs.specs.Paper.Slots.{slot6, slot16, filled}
 use Rattle.lighting_outputs.specs.Paper.Relay.{relay_state}
-use Rattle.lighting_outputs.specs.Paper.Passing.{ticks}
+use Rattle.lighting_outputs.specs.Paper.Passing.{ticks, running}
 use Rattle.lighting_outputs.specs.Engine.Advance.{advance}
 use Rattle.lighting_outputs.specs.Paper.Properties.{flag}
 use Rattle.lighting_outputs.specs.Paper.Acting.{acted}
@@ -17,7 +17,6 @@ use Rattle.lighting_outputs.specs.declared.Operation.{Operation}
 use Rattle.lighting_outputs.specs.declared.Operation.TheVariants.{FadeToOver, Goto}
 use Rattle.lighting_outputs.specs.declared.Phase.TheVariants.{Blink}
 use Rattle.lighting_outputs.specs.declared.Activity.TheVariants.{Warned}
-use Rattle.lighting_outputs.specs.declared.Timer.TheVariants.{Running}
 use Rattle.lighting_outputs.specs.declared.Property.{Property}
 use Rattle.lighting_outputs.specs.declared.Property.TheVariants.{RelinquishDefault, BlinkEnable, BlinkTime, BlinkWarnDelay, MinValue, MaxValue, BinaryActiveValue, BinaryInactiveValue, Polarity}
 use Rattle.lighting_outputs.specs.declared.OutputRequest.{OutputRequest}
@@ -72,7 +71,7 @@ both_at_once =
       settings = fresh_output.settings;
       slots = filled (filled (filled fresh_output.slots 0 3080192) slot6 0) slot16 0;
       activity = Warned (record { phase = Blink; owner = slot16; level = 3080192; turn = 10; over = 20 });
-      timer = Running 0 10;
+      timer = running 0 10;
       burning = 0;
       last = fresh_output.last;
       relay = record { active = 3276800; inactive = 2949120; reverse = fresh_output.relay.reverse; binary = true };

@@ -1,6 +1,6 @@
 -- §8 BY NUMBER: what a tenant and a service station read, side by side, beside what the paper says.
 -- proofs/Figures.antt proves them equal.
-use Rattle.std.specs.Prelude.{Bool, true, List, [], ◌∷◌, ◌++◌, map, ℕ}
+use Rattle.std.specs.Prelude.{Bool, true, List, [], ◌∷◌, ◌++◌, map, ℕ, None}
 use Rattle.lighting_levels.specs.Paper.Level.{real}
 use Rattle.lighting_outputs.specs.Paper.Slots.{filled}
 use Rattle.lighting_outputs.specs.Paper.Tenants.{is_tenant, for_tenant, for_service}
@@ -16,7 +16,6 @@ use Rattle.lighting_outputs.specs.declared.Output.{Output}
 use Rattle.lighting_outputs.specs.declared.Pace.TheVariants.{Fade}
 use Rattle.lighting_outputs.specs.declared.Phase.TheVariants.{Delay}
 use Rattle.lighting_outputs.specs.declared.Slots.{Slots}
-use Rattle.lighting_outputs.specs.declared.Timer.TheVariants.{Off}
 
 -- an output at 10,000 ms: 50.5 percent in slot 1, 30 in slot 3, 25.75 in slot 7, 60 in slot 16; on its way
 -- from 10.25 percent, half of it gone, so at 30.375; every setting is another than a fresh one
@@ -44,7 +43,7 @@ output_with slots activity =
           };
       slots = slots;
       activity = activity;
-      timer = Off;
+      timer = None;
       burning = 12345678;
       last = record { operation = FadeToOver (real 0x424a_0000) 1000; duration = Lasts 5000 };
       relay = record { active = 3932160; inactive = 2621440; reverse = true; binary = true };

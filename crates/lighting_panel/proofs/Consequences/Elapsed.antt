@@ -1,6 +1,7 @@
 -- §4 of the change requests: 'Carry the milliseconds since a movement's start in 32 bits inside the level
 -- formula [..] Answers and tables stay as they were, also after clock jumps of 4,294,967,296 ms and more.'
 -- The definitions keep the unbounded number (`elapsed`); here stands why 32 bits lose nothing of it.
+use Rattle.std.specs.Prelude.{Option, Some, None}
 use mathlib.Core.Path.{◌≡◌, refl, sym, ap, ◌∙◌}
 use mathlib.Core.Bool.{true}
 use Prim.Native.Nat.{ℕ, zero, suc, ◌+◌, ◌-◌, ◌%◌, ◌≤◌, ◌<◌}
@@ -25,7 +26,6 @@ use Rattle.lighting_outputs.specs.declared.Movement.{Movement}
 use Rattle.lighting_outputs.specs.declared.Activity.{Activity}
 use Rattle.lighting_outputs.specs.declared.Activity.TheVariants.{Still, Moving, Warned}
 use Rattle.lighting_outputs.specs.declared.Timer.{Timer}
-use Rattle.lighting_outputs.specs.declared.Timer.TheVariants.{Off, Running}
 use Rattle.lighting_outputs.specs.declared.Output.{Output}
 use Rattle.lighting_levels.proofs.Split.{by_bool}
 use Rattle.lighting_outputs.proofs.Rules.Facts.{Sound, Lawful}
@@ -146,12 +146,12 @@ slot_goes slot Still = on
 slot_goes slot (Moving m) = by_bool (eqb m.owner slot) (λ e. rw e (rests refl)) (λ e. rw e on)
 slot_goes slot (Warned w) = on
 
-timer_goes : (timer : Timer) (a : Activity) → Goes a (end_movement_by timer a)
+timer_goes : (timer : Option Timer) (a : Activity) → Goes a (end_movement_by timer a)
 unfolding end_movement_by
-timer_goes Off a = on
-timer_goes (Running slot due) a = slot_goes slot a
+timer_goes None a = on
+timer_goes (Some timer) a = slot_goes timer.slot a
 
-expiry_goes : (d : ℕ) (timer : Timer) (a : Activity) → Goes a (end_movement_on_expiry d timer a)
+expiry_goes : (d : ℕ) (timer : Option Timer) (a : Activity) → Goes a (end_movement_on_expiry d timer a)
 unfolding end_movement_on_expiry when◌then◌else◌
 expiry_goes d timer a = by_bool (is_due d (timer_due timer)) (λ e. rw e (timer_goes timer a)) (λ e. rw e on)
 

@@ -1,5 +1,6 @@
 -- AFTER EVERY LIST the last command of each output is one that a string of bytes asks for: so the writer's
 -- form of it, read, gives it back (§1: 'A writer makes this form from every command the panel keeps').
+use Rattle.std.specs.Prelude.{Result, Ok, Err}
 use Rattle.lighting_levels.specs.Paper.Choice.{when◌then◌else◌, Every}
 use mathlib.Core.Path.{◌≡◌, refl}
 use mathlib.Core.Bool.{Bool, true}
@@ -33,17 +34,16 @@ use Rattle.lighting_frames.specs.declared.Action.TheVariants.{Stops}
 use Rattle.lighting_outputs.specs.declared.Answer.TheVariants.{Done}
 use Rattle.lighting_outputs.specs.declared.Command.{Command}
 use Rattle.lighting_frames.specs.declared.Frame.{Frame}
-use Rattle.lighting_frames.specs.declared.Frame.TheVariants.{Bad, Clock, Calls}
+use Rattle.lighting_frames.specs.declared.Frame.TheVariants.{Clock, Calls}
 use Rattle.lighting_frames.specs.declared.Kind.{Kind}
 use Rattle.lighting_frames.specs.declared.Kind.TheVariants.{NoKind, ClockKind, CallKind}
 use Rattle.lighting_outputs.specs.declared.Output.{Output}
 use Rattle.lighting_outputs.specs.declared.Outcome.{Outcome}
-use Rattle.lighting_outputs.specs.declared.Request.{Request}
-use Rattle.lighting_outputs.specs.declared.Request.TheVariants.{ToOutput}
+use Rattle.lighting_outputs.specs.Paper.Answers.{Request}
 use Rattle.lighting_outputs.specs.declared.OutputRequest.{OutputRequest}
 use Rattle.lighting_outputs.specs.declared.OutputRequest.TheVariants.{Write, Empty, Change, Read, Commands}
 use Rattle.lighting_frames.specs.declared.Verdict.{Verdict}
-use Rattle.lighting_frames.specs.declared.Verdict.TheVariants.{TurnedDown, Copied, Clocked, Arrives}
+use Rattle.lighting_frames.specs.declared.Verdict.TheVariants.{Copied, Clocked, Arrives}
 use Rattle.lighting_levels.proofs.Split.{by_bool}
 use Rattle.lighting_levels.proofs.Every.{every_then, every_map, every_replicate}
 use Rattle.lighting_outputs.proofs.Acts.Acted.{by_change}
@@ -53,6 +53,7 @@ use Rattle.lighting_frames.proofs.Tagging.Kept.{gives_back}
 use Rattle.lighting_panel.proofs.Demand.{demand_3}
 use Rattle.lighting_panel.proofs.Calls.{once}
 use Rattle.lighting_outputs.proofs.Consequences.Durations.{written_rest}
+use Rattle.lighting_outputs.specs.declared.Refusal.{Refusal}
 
 -- A FRESH OUTPUT'S: 'last operation STOP without duration', which kind 10 with FFFFFFFF asks for
 stop : Bytes
@@ -64,12 +65,12 @@ fresh_kept p fade = asked Stops stop (appended_octets (replicate 13 0) (replicat
 
 -- WHAT A FRAME ASKS
 abbrev Asking : Parameters → Request → Type 0
-Asking p r = (k : Command) → r ≡ ToOutput (Commands k) → Kept p k
+Asking p r = (k : Command) → r ≡ Ok (Commands k) → Kept p k
 
-abbrev FrameKept : Parameters → Frame → Type 0
-FrameKept p (Bad r) = Unit {0}
-FrameKept p (Clock t) = Unit {0}
-FrameKept p (Calls call) = Asking p call.request
+abbrev FrameKept : Parameters → Result Frame Refusal → Type 0
+FrameKept p (Err r) = Unit {0}
+FrameKept p (Ok (Clock t)) = Unit {0}
+FrameKept p (Ok (Calls call)) = Asking p call.request
 
 call_kept : (p : Parameters) (c : ℕ) (action : Action) (b : Bytes) → Octets b → FrameKept p (called p c (call_of p action b))
 unfolding called call_of when◌then◌else◌
@@ -89,17 +90,17 @@ parse_kept : (p : Parameters) (c : ℕ) (b : Bytes) → Octets b → FrameKept p
 unfolding parse
 parse_kept p c b o = read_kept p c (kind_row (byte_at b 0)).length (kind_row (byte_at b 0)).kind b o
 
-abbrev VerdictKept : Parameters → Verdict → Type 0
-VerdictKept p (TurnedDown r) = Unit {0}
-VerdictKept p (Copied a) = Unit {0}
-VerdictKept p (Clocked t) = Unit {0}
-VerdictKept p (Arrives call) = Asking p call.request
+abbrev VerdictKept : Parameters → Result Verdict Refusal → Type 0
+VerdictKept p (Err r) = Unit {0}
+VerdictKept p (Ok (Copied a)) = Unit {0}
+VerdictKept p (Ok (Clocked t)) = Unit {0}
+VerdictKept p (Ok (Arrives call)) = Asking p call.request
 
-judged_kept : (p : Parameters) (h : List Event) (b : Bytes) (f : Frame) → FrameKept p f → VerdictKept p (judged h b f)
+judged_kept : (p : Parameters) (h : List Event) (b : Bytes) (f : Result Frame Refusal) → FrameKept p f → VerdictKept p (judged h b f)
 unfolding judged retransmission_or_conflict when◌then◌else◌
-judged_kept p h b (Bad r) g = tt
-judged_kept p h b (Clock t) g = by_bool (in_time t h) (λ e. rw e tt) (λ e. rw e tt)
-judged_kept p h b (Calls call) g =
+judged_kept p h b (Err r) g = tt
+judged_kept p h b (Ok (Clock t)) g = by_bool (in_time t h) (λ e. rw e tt) (λ e. rw e tt)
+judged_kept p h b (Ok (Calls call)) g =
     let s = call.station in
     let n = call.number in
     by_bool (above s n h)
@@ -114,7 +115,7 @@ tick_last : (t : ℕ) (o : Output) → (tick t o).last ≡ o.last
 unfolding tick fire after_events with_burned with_burning
 tick_last t o = refl
 
-acted_last : (p : Parameters) (tenant : Bool) (t : ℕ) (o : Output) (q : OutputRequest) → Asking p (ToOutput q)
+acted_last : (p : Parameters) (tenant : Bool) (t : ℕ) (o : Output) (q : OutputRequest) → Asking p (Ok q)
     → Kept p o.last → Kept p (acted tenant t o q).output.last
 unfolding acted done unchanged after_events slot_relinquished with_effect changed with_settings commanded commanded_from with_command
 acted_last p tenant t o (Write i v) g h = rw (written_rest t o i v).last h
@@ -132,13 +133,13 @@ unfolding run_plain
 all_run p zero y h = h
 all_run p (suc n) y h = all_run p n _ (every_map (LastKept p) (LastKept p) (tick y.time) y.outputs (λ o k. rw (tick_last y.time o) k) h)
 
-all_execute : (p : Parameters) (marks : ℕ) (b : Bytes) (w : PlainState) (v : Verdict) → VerdictKept p v
+all_execute : (p : Parameters) (marks : ℕ) (b : Bytes) (w : PlainState) (v : Result Verdict Refusal) → VerdictKept p v
     → Every (LastKept p) w.panel.outputs → Every (LastKept p) (plain_execute marks b w v).state.panel.outputs
 unfolding plain_execute
-all_execute p marks b w (TurnedDown r) g h = h
-all_execute p marks b w (Copied a) g h = h
-all_execute p marks b w (Clocked t) g h = all_run p (t - w.panel.time) w.panel h
-all_execute p marks b w (Arrives call) g h =
+all_execute p marks b w (Err r) g h = h
+all_execute p marks b w (Ok (Copied a)) g h = h
+all_execute p marks b w (Ok (Clocked t)) g h = all_run p (t - w.panel.time) w.panel h
+all_execute p marks b w (Ok (Arrives call)) g h =
     let come = run_plain (call.time - w.panel.time) w.panel in
     served_every (LastKept p) (is_tenant marks call.station) come.time come.outputs call.output
     call.request
@@ -166,7 +167,7 @@ last_kept p marks e l s h =
 
 -- so the writer's form of each, read, gives it back
 abbrev pub LastGivenBack : Parameters → Output → Type 0
-LastGivenBack p o = tagged_request p (read_body (body_bytes (command_tags o.last))) ≡ ToOutput (Commands o.last)
+LastGivenBack p o = tagged_request p (read_body (body_bytes (command_tags o.last))) ≡ Ok (Commands o.last)
 
 pub last_given_back : (p : Parameters) (marks : ℕ) (e : Panel) (l : List Bytes) → Strings l
     → (start_step p marks e).answer ≡ Done

@@ -1,5 +1,6 @@
 -- THE MARKS (§8), over every lent table: no frame changes them, and bits at or above the number of stations
 -- mean nothing.
+use Rattle.std.specs.Prelude.{Result, Ok, Err}
 use mathlib.Core.Path.{◌≡◌, refl, ap}
 use mathlib.Core.List.{List, [], ◌∷◌}
 use Prim.Native.Nat.{ℕ, ◌<◌}
@@ -10,7 +11,7 @@ use Rattle.lighting_outputs.specs.Paper.Tenants.{is_tenant}
 use Rattle.lighting_outputs.specs.declared.Answer.{Answer}
 use Rattle.lighting_frames.specs.Paper.Frames.{Bytes, Octets, Strings}
 use Rattle.lighting_frames.specs.declared.Verdict.{Verdict}
-use Rattle.lighting_frames.specs.declared.Verdict.TheVariants.{TurnedDown, Copied, Clocked, Arrives}
+use Rattle.lighting_frames.specs.declared.Verdict.TheVariants.{Copied, Clocked, Arrives}
 use Rattle.lighting_panel.specs.Paper.Panel.{Panel, PanelRecord, panel_of, panel_result, rules_kept, panel_sound}
 use Rattle.lighting_panel.specs.Paper.Demand.{after, answers}
 use Rattle.lighting_panel.specs.Engine.Judging.{decide}
@@ -18,18 +19,19 @@ use Rattle.lighting_panel.specs.Engine.Executing.{execute, frame_step}
 use Rattle.lighting_panel.specs.Engine.VerdictPrecondition.{VerdictPrecondition}
 use Rattle.lighting_levels.proofs.Split.{by_bool}
 use Rattle.lighting_panel.proofs.Carried.{sound_stations, decide_sure}
+use Rattle.lighting_outputs.specs.declared.Refusal.{Refusal}
 
 -- NO FRAME CHANGES the marks, nor the set: whatever is lent
 record Keeps (before now : PanelRecord) : Type 0 where
   tenants : now.tenants ≡ before.tenants
   parameters : now.parameters ≡ before.parameters
 
-execute_keeps : (b : Bytes) (e : Panel) (v : Verdict) → Keeps e.kept (execute b e v).panel.kept
+execute_keeps : (b : Bytes) (e : Panel) (v : Result Verdict Refusal) → Keeps e.kept (execute b e v).panel.kept
 unfolding execute
-execute_keeps b e (TurnedDown r) = record { tenants = refl; parameters = refl }
-execute_keeps b e (Copied a) = record { tenants = refl; parameters = refl }
-execute_keeps b e (Clocked t) = record { tenants = refl; parameters = refl }
-execute_keeps b e (Arrives call) = record { tenants = refl; parameters = refl }
+execute_keeps b e (Err r) = record { tenants = refl; parameters = refl }
+execute_keeps b e (Ok (Copied a)) = record { tenants = refl; parameters = refl }
+execute_keeps b e (Ok (Clocked t)) = record { tenants = refl; parameters = refl }
+execute_keeps b e (Ok (Arrives call)) = record { tenants = refl; parameters = refl }
 
 frame_keeps : (e : Panel) (b : Bytes) → Keeps e.kept (frame_step e b).panel.kept
 unfolding frame_step when◌then◌else◌
@@ -51,15 +53,15 @@ with_marks marks e =
     panel_of e.outputs e.stations
     (record { time = e.kept.time; parameters = e.kept.parameters; tenants = marks })
 
-execute_beyond : (marks : ℕ) (e : Panel) (b : Bytes) (v : Verdict)
+execute_beyond : (marks : ℕ) (e : Panel) (b : Bytes) (v : Result Verdict Refusal)
     → VerdictPrecondition e.kept.time (length e.outputs) (length e.stations) b v
     → AgreeBelow (length e.stations) marks e.kept.tenants
     → execute b (with_marks marks e) v ≡ panel_result (with_marks marks (execute b e v).panel) (execute b e v).answer
 unfolding execute
-execute_beyond marks e b (TurnedDown r) g agree = refl
-execute_beyond marks e b (Copied a) g agree = refl
-execute_beyond marks e b (Clocked t) g agree = refl
-execute_beyond marks e b (Arrives call) g agree = rw (agree call.station g.station)
+execute_beyond marks e b (Err r) g agree = refl
+execute_beyond marks e b (Ok (Copied a)) g agree = refl
+execute_beyond marks e b (Ok (Clocked t)) g agree = refl
+execute_beyond marks e b (Ok (Arrives call)) g agree = rw (agree call.station g.station)
 
 same_sound : (marks : ℕ) (e : Panel) → panel_sound (with_marks marks e) ≡ panel_sound e
 unfolding panel_sound rules_kept

@@ -1,5 +1,6 @@
 -- A FRAME TO ONE OUTPUT leaves every other as the passing of time leaves it; and which output it is, byte 12
 -- says.
+use Rattle.std.specs.Prelude.{Result, Ok, Err}
 use mathlib.Core.Path.{◌≡◌, refl, sym, ◌∙◌}
 use mathlib.Core.Logic.{◌≢◌}
 use mathlib.Core.Bool.{Bool, true}
@@ -25,25 +26,26 @@ use Rattle.lighting_frames.specs.declared.Kind.{Kind}
 use Rattle.lighting_frames.specs.declared.Kind.TheVariants.{NoKind, ClockKind, CallKind}
 use Rattle.lighting_frames.specs.declared.Call.{Call}
 use Rattle.lighting_frames.specs.declared.Frame.{Frame}
-use Rattle.lighting_frames.specs.declared.Frame.TheVariants.{Bad, Clock, Calls}
+use Rattle.lighting_frames.specs.declared.Frame.TheVariants.{Clock, Calls}
 use Rattle.lighting_frames.specs.declared.Verdict.{Verdict}
-use Rattle.lighting_frames.specs.declared.Verdict.TheVariants.{TurnedDown, Copied, Clocked, Arrives}
+use Rattle.lighting_frames.specs.declared.Verdict.TheVariants.{Copied, Clocked, Arrives}
 use Rattle.lighting_levels.proofs.Split.{also_both, by_bool}
 use Rattle.lighting_panel.proofs.Carried.{sound_outputs}
 use Rattle.lighting_outputs.proofs.Rules.Tied.{tested_stays}
 use Rattle.lighting_panel.proofs.Table.{served_other}
+use Rattle.lighting_outputs.specs.declared.Refusal.{Refusal}
 
 -- the output that a call is for
-abbrev Of : ℕ → Frame → Type 0
-Of i (Bad r) = Unit {0}
-Of i (Clock t) = Unit {0}
-Of i (Calls call) = call.output ≡ i
+abbrev Of : ℕ → Result Frame Refusal → Type 0
+Of i (Err r) = Unit {0}
+Of i (Ok (Clock t)) = Unit {0}
+Of i (Ok (Calls call)) = call.output ≡ i
 
-abbrev For : ℕ → Verdict → Type 0
-For i (TurnedDown r) = Unit {0}
-For i (Copied a) = Unit {0}
-For i (Clocked t) = Unit {0}
-For i (Arrives call) = call.output ≡ i
+abbrev For : ℕ → Result Verdict Refusal → Type 0
+For i (Err r) = Unit {0}
+For i (Ok (Copied a)) = Unit {0}
+For i (Ok (Clocked t)) = Unit {0}
+For i (Ok (Arrives call)) = call.output ≡ i
 
 called_of : (p : Parameters) (c i : ℕ) (call : Call) → call.output ≡ i → Of i (called p c call)
 unfolding called when◌then◌else◌
@@ -63,11 +65,11 @@ parse_of : (p : Parameters) (c : ℕ) (b : Bytes) → Of (byte_at b 12) (parse p
 unfolding parse
 parse_of p c b = parse_by_lem p c (kind_row (byte_at b 0)).length (kind_row (byte_at b 0)).kind b
 
-judged_by_record_for : (i now : ℕ) (k : Station) (same : Bool) (f : Frame) → Of i f → For i (judged_by_record now k same f)
+judged_by_record_for : (i now : ℕ) (k : Station) (same : Bool) (f : Result Frame Refusal) → Of i f → For i (judged_by_record now k same f)
 unfolding judged_by_record judged_by_number retransmission_or_conflict when◌then◌else◌
-judged_by_record_for i now k same (Bad r) h = tt
-judged_by_record_for i now k same (Clock t) h = by_bool (ltb t now) (λ e. rw e tt) (λ e. rw e tt)
-judged_by_record_for i now k same (Calls call) h =
+judged_by_record_for i now k same (Err r) h = tt
+judged_by_record_for i now k same (Ok (Clock t)) h = by_bool (ltb t now) (λ e. rw e tt) (λ e. rw e tt)
+judged_by_record_for i now k same (Ok (Calls call)) h =
     by_bool (eqb call.number k.number) (λ e. rw e (by_bool same (λ f. rw f tt) (λ f. rw f tt)))
     (λ e. rw e (by_bool (ltb call.number k.number) (λ f. rw f tt) (λ f. rw f (by_bool (ltb call.time now) (λ g. rw g tt) (λ g. rw g h)))))
 
@@ -96,13 +98,13 @@ module _ (e : Panel) (b : Bytes) (j : ℕ) (sized : j < length e.outputs) (bound
       let p = e.kept.parameters in
       sym (tested_stays p e.kept.time (get_or e.outputs j fresh_output) bounded (every_at p e.kept.time e.outputs j sized (sound_outputs e h)))
 
-  execute_other : (v : Verdict) → For (byte_at b 12) v → panel_sound e ≡ true
+  execute_other : (v : Result Verdict Refusal) → For (byte_at b 12) v → panel_sound e ≡ true
       → get_or (execute b e v).panel.outputs j fresh_output ≡ advance e.kept.time (execute b e v).panel.kept.time (get_or e.outputs j fresh_output)
   unfolding execute
-  execute_other (TurnedDown r) f h = stands h
-  execute_other (Copied a) f h = stands h
-  execute_other (Clocked t) f h = at_map (advance e.kept.time t) e.outputs j sized
-  execute_other (Arrives call) f h =
+  execute_other (Err r) f h = stands h
+  execute_other (Ok (Copied a)) f h = stands h
+  execute_other (Ok (Clocked t)) f h = at_map (advance e.kept.time t) e.outputs j sized
+  execute_other (Ok (Arrives call)) f h =
       served_other _ call.time (map (advance e.kept.time call.time) e.outputs) call.output j
       call.request (λ q. other (sym f ∙ sym q))
       ∙ at_map (advance e.kept.time call.time) e.outputs j sized

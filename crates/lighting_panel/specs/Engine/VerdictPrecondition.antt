@@ -1,14 +1,15 @@
 -- Not of the paper: what the panel's inner functions ask (`requires`) of the outputs and of a verdict that
 -- they carry out. proofs/Carried.antt has that a sound panel's outputs meet it (`All-stay`), and every
 -- verdict on one (`decide_sure`).
-use Rattle.std.specs.Prelude.{◌≡◌, List, map, ℕ, ◌^◌, ◌≤◌, ◌<◌, length}
+use Rattle.std.specs.Prelude.{◌≡◌, List, map, ℕ, ◌^◌, ◌≤◌, ◌<◌, length, Result, Ok, Err}
 use Rattle.lighting_frames.specs.Paper.Kinds.{longest_frame}
 use Rattle.lighting_frames.specs.Paper.Frames.{Bytes}
 use Rattle.lighting_outputs.specs.Engine.Advance.{greatest_count, advance}
 use Rattle.lighting_outputs.specs.declared.Output.{Output}
 use Rattle.lighting_frames.specs.declared.Call.{Call}
 use Rattle.lighting_frames.specs.declared.Verdict.{Verdict}
-use Rattle.lighting_frames.specs.declared.Verdict.TheVariants.{TurnedDown, Copied, Clocked, Arrives}
+use Rattle.lighting_frames.specs.declared.Verdict.TheVariants.{Copied, Clocked, Arrives}
+use Rattle.lighting_outputs.specs.declared.Refusal.{Refusal}
 
 -- while time stands the outputs stay as they are
 abbrev pub Standing : ℕ → List Output → Type 0
@@ -27,8 +28,8 @@ pub record Arrival (now c k : ℕ) (b : Bytes) (call : Call) : Type 0 where
   pub output : call.output < c
   pub size : length b ≤ longest_frame
 
-abbrev pub VerdictPrecondition : ℕ → ℕ → ℕ → Bytes → Verdict → Type 0
-VerdictPrecondition now c k b (TurnedDown r) = Unit {0}
-VerdictPrecondition now c k b (Copied a) = Unit {0}
-VerdictPrecondition now c k b (Clocked t) = Timely now t
-VerdictPrecondition now c k b (Arrives call) = Arrival now c k b call
+abbrev pub VerdictPrecondition : ℕ → ℕ → ℕ → Bytes → Result Verdict Refusal → Type 0
+VerdictPrecondition now c k b (Err r) = Unit {0}
+VerdictPrecondition now c k b (Ok (Copied a)) = Unit {0}
+VerdictPrecondition now c k b (Ok (Clocked t)) = Timely now t
+VerdictPrecondition now c k b (Ok (Arrives call)) = Arrival now c k b call

@@ -4,7 +4,7 @@
 -- is then document 01's own clause, with its numbers, the theorems of `Consequences/Numbers.antt` say.
 -- proofs/OldPanel.antt and proofs/FourHours.antt: 'The old panel's set now ends in 14,400,000, 86,400,000,
 -- and equals it on lists without a longer fade time' (§7).
-use Rattle.std.specs.Prelude.{Bool, List, [], ◌∷◌, map, ℕ, leb, eqb, get_or, length, replicate}
+use Rattle.std.specs.Prelude.{Bool, List, [], ◌∷◌, map, ℕ, leb, eqb, get_or, length, replicate, Result}
 use Rattle.lighting_levels.specs.Paper.Choice.{when◌then◌else◌, ◌also◌, every}
 use Rattle.lighting_outputs.specs.declared.Parameters.{Parameters}
 use Rattle.lighting_outputs.specs.Paper.Parameters.{document01}
@@ -20,6 +20,9 @@ use Rattle.lighting_outputs.specs.declared.Output.{Output}
 use Rattle.lighting_outputs.specs.declared.Answer.{Answer}
 use Rattle.lighting_outputs.specs.declared.Answer.TheVariants.{Done, Refused}
 use Rattle.lighting_frames.specs.declared.Verdict.{Verdict}
+use Rattle.lighting_outputs.specs.declared.Refusal.{Refusal}
+use Rattle.lighting_outputs.specs.Paper.Answers.{refusal_number}
+use Rattle.lighting_outputs.specs.declared.Refusal.TheVariants.{BrokenRecords}
 
 -- 'beside it stand eight station records and the panel time'
 pub record OldPanel : Type 0 where
@@ -66,19 +69,19 @@ old_start e =
           };
       answer = Done;
     }
-    else record { panel = e; answer = Refused 1 }
+    else record { panel = e; answer = Refused (refusal_number BrokenRecords) }
 
 -- one frame: judged by its station's record, and carried out, which neither reads a set nor changes it
-unfoldable pub old_decide : OldPanel → Bytes → Verdict
+unfoldable pub old_decide : OldPanel → Bytes → Result Verdict Refusal
 old_decide e b =
     let f = parse numbers (length e.outputs) b in
     judged_by_station e.time (get_or e.stations (station_of f) fresh_station) b f
 
-unfoldable pub old_execute : Bytes → OldPanel → Verdict → OldStep
+unfoldable pub old_execute : Bytes → OldPanel → Result Verdict Refusal → OldStep
 old_execute b e v = let done = execute b (with_set numbers e) v in record { panel = without_set done.panel; answer = done.answer }
 
 unfoldable pub old_frame : OldPanel → Bytes → OldStep
-old_frame e b = when old_sound e then old_execute b e (old_decide e b) else record { panel = e; answer = Refused 1 }
+old_frame e b = when old_sound e then old_execute b e (old_decide e b) else record { panel = e; answer = Refused (refusal_number BrokenRecords) }
 
 -- a list of frames; and what is found
 unfoldable pub old_after : OldPanel → List Bytes → OldPanel

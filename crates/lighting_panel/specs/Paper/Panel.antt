@@ -13,6 +13,8 @@ use Rattle.lighting_outputs.specs.declared.Answer.{Answer}
 use Rattle.lighting_outputs.specs.declared.Answer.TheVariants.{Done, Refused}
 pub use Rattle.lighting_frames.specs.declared.Station.{Station}
 pub use Rattle.lighting_panel.specs.declared.PanelRecord.{PanelRecord}
+use Rattle.lighting_outputs.specs.Paper.Answers.{refusal_number}
+use Rattle.lighting_outputs.specs.declared.Refusal.TheVariants.{BrokenRecords, BadParameters}
 
 -- 'The outputs stand in a lent table [..]; beside it stand [..] station records and the panel time'. All that
 -- is lent beside the two tables stands in one record, `kept`: the time, the set of parameters, which 'are
@@ -77,6 +79,6 @@ start_step p marks e =
     then (
     when counts_sound p (length e.outputs) (length e.stations)
     then record { panel = fresh_panel p marks; answer = Done }
-    else record { panel = e; answer = Refused 1 }
+    else record { panel = e; answer = Refused (refusal_number BrokenRecords) }
     )
-    else record { panel = e; answer = Refused 17 }
+    else record { panel = e; answer = Refused (refusal_number BadParameters) }

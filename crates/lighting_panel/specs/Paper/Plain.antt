@@ -1,5 +1,5 @@
 -- 'The plain panel' over a list of frames: first arrivals, accepted clocks and copies, decided from the list.
-use Rattle.std.specs.Prelude.{Bool, true, List, [], ◌∷◌, map, ℕ, zero, suc, ◌-◌, leb, ltb, eqb, length, replicate}
+use Rattle.std.specs.Prelude.{Bool, true, List, [], ◌∷◌, map, ℕ, zero, suc, ◌-◌, leb, ltb, eqb, length, replicate, Result, Ok, Err}
 use Rattle.lighting_levels.specs.Paper.Choice.{when◌then◌else◌, ◌also◌}
 use Rattle.lighting_outputs.specs.declared.Parameters.{Parameters}
 use Rattle.lighting_frames.specs.Paper.Frames.{Bytes, parse}
@@ -12,9 +12,12 @@ use Rattle.lighting_outputs.specs.declared.Output.{Output}
 use Rattle.lighting_outputs.specs.declared.Answer.{Answer}
 use Rattle.lighting_outputs.specs.declared.Answer.TheVariants.{Done, Refused}
 use Rattle.lighting_frames.specs.declared.Frame.{Frame}
-use Rattle.lighting_frames.specs.declared.Frame.TheVariants.{Bad, Clock, Calls}
+use Rattle.lighting_frames.specs.declared.Frame.TheVariants.{Clock, Calls}
 use Rattle.lighting_frames.specs.declared.Verdict.{Verdict}
-use Rattle.lighting_frames.specs.declared.Verdict.TheVariants.{TurnedDown, Copied, Clocked, Arrives}
+use Rattle.lighting_frames.specs.declared.Verdict.TheVariants.{Copied, Clocked, Arrives}
+use Rattle.lighting_outputs.specs.declared.Refusal.{Refusal}
+use Rattle.lighting_outputs.specs.Paper.Answers.{refusal_number}
+use Rattle.lighting_outputs.specs.declared.Refusal.TheVariants.{PastNumber, PastTime}
 
 -- 'It has outputs and a time, no stations'
 pub record Plain : Type 0 where
@@ -57,15 +60,15 @@ latest s (first s' n t b a ∷ h) = when eqb s' s then record { answer = a; numb
 
 -- A FRAME JUDGED over the list: 'a copy of its station's latest first arrival gets that one's answer, any
 -- other the first of refusals 2 to 8 that it meets, read over the list'
-unfoldable pub judged : List Event → Bytes → Frame → Verdict
-judged h b (Bad r) = TurnedDown r
-judged h b (Clock t) = when in_time t h then Clocked t else TurnedDown 8
-judged h b (Calls call) =
+unfoldable pub judged : List Event → Bytes → Result Frame Refusal → Result Verdict Refusal
+judged h b (Err r) = Err r
+judged h b (Ok (Clock t)) = when in_time t h then Ok (Clocked t) else Err PastTime
+judged h b (Ok (Calls call)) =
     let last = latest call.station h in
     when above call.station call.number h
-    then (when in_time call.time h then Arrives call else TurnedDown 8)
+    then (when in_time call.time h then Ok (Arrives call) else Err PastTime)
     else when eqb call.number last.number then retransmission_or_conflict (same_bytes b last.frame) last.answer
-    else TurnedDown 7
+    else Err PastNumber
 
 -- the plain panel, and what it was handed
 pub record PlainState : Type 0 where
@@ -79,12 +82,12 @@ pub record Reply : Type 0 where
 -- 'For a first arrival it steps to the frame's time and does what its kind calls for, or refuses 9 to 13';
 -- 'Clocks [..] only step it. Other frames do not touch it'. 'The plain panel takes the mark with each first
 -- arrival' (§8): whether its station is a tenant
-unfoldable pub plain_execute : ℕ → Bytes → PlainState → Verdict → Reply
-plain_execute marks b w (TurnedDown r) = record { state = w; answer = Refused r }
-plain_execute marks b w (Copied a) = record { state = w; answer = a }
-plain_execute marks b w (Clocked t) =
+unfoldable pub plain_execute : ℕ → Bytes → PlainState → Result Verdict Refusal → Reply
+plain_execute marks b w (Err r) = record { state = w; answer = Refused (refusal_number r) }
+plain_execute marks b w (Ok (Copied a)) = record { state = w; answer = a }
+plain_execute marks b w (Ok (Clocked t)) =
     record { state = record { past = clock t ∷ w.past; panel = run_plain (t - w.panel.time) w.panel }; answer = Done }
-plain_execute marks b w (Arrives call) =
+plain_execute marks b w (Ok (Arrives call)) =
     let come = run_plain (call.time - w.panel.time) w.panel in
     let done = served (is_tenant marks call.station) come.time come.outputs call.output call.request in
     record {

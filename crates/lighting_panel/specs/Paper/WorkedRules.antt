@@ -1,11 +1,11 @@
 -- THE RECORD RULES BY NUMBER: lent records at panel time 1,000, whether each keeps the rules, beside what the
 -- papers say. proofs/Figures.antt proves them equal. A record that breaks a rule differs in that alone from
 -- one beside it that keeps them all. Slots are counted from 0: slot 6 is 5, slot 16 is 15.
-use Rattle.std.specs.Prelude.{Bool, true, false, List, [], ◌∷◌, map, ℕ, replicate, set}
+use Rattle.std.specs.Prelude.{Bool, true, false, List, [], ◌∷◌, map, ℕ, replicate, set, Option, None}
 use Rattle.lighting_outputs.specs.Paper.Parameters.{fresh_fade, four_hours}
 use Rattle.lighting_outputs.specs.declared.Slots.{Slots}
 use Rattle.lighting_outputs.specs.Paper.Slots.{filled}
-use Rattle.lighting_outputs.specs.Paper.Passing.{after_events}
+use Rattle.lighting_outputs.specs.Paper.Passing.{after_events, running}
 use Rattle.lighting_outputs.specs.Paper.Properties.{property_of, settings_with, relay_with}
 use Rattle.lighting_outputs.specs.Paper.Fresh.{fresh_settings, fresh_relay, fresh_output}
 use Rattle.lighting_frames.specs.Paper.Stations.{fresh_station, station_sound}
@@ -22,10 +22,9 @@ use Rattle.lighting_outputs.specs.declared.Relay.{Relay}
 use Rattle.lighting_outputs.specs.declared.Settings.{Settings}
 use Rattle.lighting_frames.specs.declared.Station.{Station}
 use Rattle.lighting_outputs.specs.declared.Timer.{Timer}
-use Rattle.lighting_outputs.specs.declared.Timer.TheVariants.{Off, Running}
 
 -- A LENT RECORD, and whether it keeps the rules as it is; and with its relay judged
-abbrev lent : Settings → Slots → Activity → Timer → ℕ → Relay → Output
+abbrev lent : Settings → Slots → Activity → Option Timer → ℕ → Relay → Output
 lent settings slots activity timer burning relay =
     record {
       settings = settings;
@@ -51,11 +50,11 @@ abbrev no_slot : Slots
 no_slot = fresh_output.slots
 
 abbrev setting : ℕ → ℕ → Bool
-setting n v = keeps_judged (lent (settings_with fresh (property_of n) v) no_slot Still Off 0 fresh_relay)
+setting n v = keeps_judged (lent (settings_with fresh (property_of n) v) no_slot Still None 0 fresh_relay)
 
 abbrev limits : ℕ → ℕ → Bool
 limits min max =
-    keeps_judged (lent (settings_with (settings_with fresh (property_of 0x08) min) (property_of 0x09) max) no_slot Still Off 0 fresh_relay)
+    keeps_judged (lent (settings_with (settings_with fresh (property_of 0x08) min) (property_of 0x09) max) no_slot Still None 0 fresh_relay)
 
 abbrev settings_given : List (List Bool)
 settings_given =
@@ -88,13 +87,13 @@ settings_said =
 
 -- SLOTS: slot i is live with v; and no slot is, whatever the levels of empty ones
 abbrev holds : ℕ → ℕ → Bool
-holds i v = keeps_judged (lent fresh (filled no_slot i v) Still Off 0 fresh_relay)
+holds i v = keeps_judged (lent fresh (filled no_slot i v) Still None 0 fresh_relay)
 
 abbrev slots_given : List (List Bool)
 slots_given =
     map (holds 0) (0 ∷ 1 ∷ 65535 ∷ 65536 ∷ 6553600 ∷ 6553601 ∷ [])
     ∷ map (holds 15) (0 ∷ 1 ∷ 65535 ∷ 65536 ∷ 6553600 ∷ 6553601 ∷ [])
-    ∷ (keeps (lent fresh (record { live = 0; levels = replicate 16 7 }) Still Off 0 fresh_relay) ∷ [])
+    ∷ (keeps (lent fresh (record { live = 0; levels = replicate 16 7 }) Still None 0 fresh_relay) ∷ [])
     -- 'slot 6 live exactly during a warning': without one it is not
     ∷ (holds 4 65536 ∷ holds 5 65536 ∷ holds 6 65536 ∷ [])
     ∷ []
@@ -115,7 +114,7 @@ half = filled no_slot 15 3276800
 abbrev moving_with : Settings → Slots → ℕ → ℕ → ℕ → ℕ → ℕ → Bool
 moving_with settings slots owner start target length over =
     keeps_judged
-    (lent settings slots (Moving (record { owner = owner; start = start; target = target; length = length; over = over; pace = Fade })) Off 0 fresh_relay)
+    (lent settings slots (Moving (record { owner = owner; start = start; target = target; length = length; over = over; pace = Fade })) None 0 fresh_relay)
 
 abbrev moving_in : Slots → ℕ → ℕ → ℕ → ℕ → ℕ → Bool
 moving_in slots owner start target length over = moving_with fresh slots owner start target length over
@@ -161,7 +160,7 @@ movements_said =
 abbrev warned_in : Slots → Phase → ℕ → ℕ → ℕ → ℕ → Bool
 warned_in slots phase owner level turn over =
     keeps_judged
-    (lent fresh slots (Warned (record { phase = phase; owner = owner; level = level; turn = turn; over = over })) Off 0 fresh_relay)
+    (lent fresh slots (Warned (record { phase = phase; owner = owner; level = level; turn = turn; over = over })) None 0 fresh_relay)
 
 abbrev warned : Phase → ℕ → ℕ → ℕ → ℕ → Bool
 warned phase owner level turn over = warned_in (filled no_slot 5 0) phase owner level turn over
@@ -190,10 +189,10 @@ warnings_said =
 
 -- A DURATION and its slot; BURNING TIME
 abbrev timed : ℕ → ℕ → Bool
-timed slot due = keeps (lent fresh no_slot Still (Running slot due) 0 fresh_relay)
+timed slot due = keeps (lent fresh no_slot Still (running slot due) 0 fresh_relay)
 
 abbrev burnt : ℕ → Bool
-burnt burning = keeps (lent fresh no_slot Still Off burning fresh_relay)
+burnt burning = keeps (lent fresh no_slot Still None burning fresh_relay)
 
 abbrev times_given : List (List Bool)
 times_given =
@@ -209,11 +208,11 @@ times_said = (false ∷ true ∷ []) ∷ (true ∷ true ∷ false ∷ true ∷ f
 -- and 45 percent
 abbrev values : ℕ → ℕ → Bool
 values active inactive =
-    keeps_judged (lent fresh no_slot Still Off 0 (relay_with (relay_with fresh_relay (property_of 0x17) active) (property_of 0x18) inactive))
+    keeps_judged (lent fresh no_slot Still None 0 (relay_with (relay_with fresh_relay (property_of 0x17) active) (property_of 0x18) inactive))
 
 abbrev shows : ℕ → Bool → Bool
 shows v binary =
-    keeps (lent fresh (filled no_slot 15 v) Still Off 0 (record { active = 3276800; inactive = 2949120; reverse = false; binary = binary }))
+    keeps (lent fresh (filled no_slot 15 v) Still None 0 (record { active = 3276800; inactive = 2949120; reverse = false; binary = binary }))
 
 abbrev relays_given : List (List Bool)
 relays_given =
@@ -256,7 +255,7 @@ abbrev counts : ℕ → ℕ → Bool
 counts outputs stations = counts_sound (four_hours 2) outputs stations
 
 abbrev late : Output
-late = lent fresh no_slot Still Off 1001 fresh_relay
+late = lent fresh no_slot Still None 1001 fresh_relay
 
 abbrev panel : Output → Output → Station → Bool
 panel one other last =
@@ -279,17 +278,17 @@ panels_said = (false ∷ true ∷ false ∷ false ∷ false ∷ []) ∷ (true �
 -- AT OTHER SETS (§6), whose longest fade is given and whose longest duration is 100: how long a movement may
 -- last, 'up to the larger of the longest fade and 800,000 ms'; which Fade_Time is kept; and a duration that
 -- runs, whose moment no rule bounds
-abbrev at : ℕ → Settings → Slots → Activity → Timer → Bool
+abbrev at : ℕ → Settings → Slots → Activity → Option Timer → Bool
 at longest settings slots activity timer =
     sound (record { stations = 1; outputs = 1; fade = longest; duration = 100 }) 1000
     (after_events (lent settings slots activity timer 0 fresh_relay))
 
 abbrev lasting : ℕ → ℕ → Bool
 lasting longest length =
-    at longest (fresh_settings 100) half (Moving (record { owner = 15; start = 0; target = 3276800; length = length; over = 1001; pace = Fade })) Off
+    at longest (fresh_settings 100) half (Moving (record { owner = 15; start = 0; target = 3276800; length = length; over = 1001; pace = Fade })) None
 
 abbrev fading : ℕ → ℕ → Bool
-fading longest time = at longest (fresh_settings time) no_slot Still Off
+fading longest time = at longest (fresh_settings time) no_slot Still None
 
 abbrev sets_given : List (List Bool)
 sets_given =
@@ -299,7 +298,7 @@ sets_given =
     ∷ map (lasting 14400000) (14400000 ∷ 14400001 ∷ [])
     ∷ map (fading 100) (99 ∷ 100 ∷ 101 ∷ [])
     ∷ map (fading 5000) (5000 ∷ 5001 ∷ [])
-    ∷ map (λ (due : ℕ). at 100 (fresh_settings 100) no_slot Still (Running 15 due)) (1000 ∷ 1001 ∷ 1101 ∷ 281474976710656 ∷ [])
+    ∷ map (λ (due : ℕ). at 100 (fresh_settings 100) no_slot Still (running 15 due)) (1000 ∷ 1001 ∷ 1101 ∷ 281474976710656 ∷ [])
     ∷ []
 
 abbrev sets_said : List (List Bool)

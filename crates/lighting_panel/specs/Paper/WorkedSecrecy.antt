@@ -1,7 +1,7 @@
 -- §8, THAT NO PREMISE OF THE CLAIM OF SECRECY IS TOO MANY: for each of them two panels that differ in it
 -- alone, and a tenant's kind 05 to which they answer differently. proofs/Needed.antt proves both; the answers
 -- by number stand below, and proofs/Figures.antt computes them. Slots are counted from 0: slot 7 is 6.
-use Rattle.std.specs.Prelude.{Bool, true, false, List, [], ◌∷◌, map, ℕ, replicate, set}
+use Rattle.std.specs.Prelude.{Bool, true, false, List, [], ◌∷◌, map, ℕ, replicate, set, None}
 use Rattle.lighting_outputs.specs.Paper.Parameters.{four_hours}
 use Rattle.lighting_outputs.specs.Paper.Slots.{filled}
 use Rattle.lighting_outputs.specs.Paper.Fresh.{fresh_settings, fresh_output}
@@ -17,7 +17,6 @@ use Rattle.lighting_outputs.specs.declared.Output.{Output}
 use Rattle.lighting_outputs.specs.declared.Pace.TheVariants.{Fade}
 use Rattle.lighting_outputs.specs.declared.Phase.TheVariants.{Delay}
 use Rattle.lighting_outputs.specs.declared.Slots.{Slots}
-use Rattle.lighting_outputs.specs.declared.Timer.TheVariants.{Off, Running}
 use Rattle.lighting_frames.specs.Paper.Frames.{Bytes}
 use Rattle.lighting_frames.specs.Paper.Stations.{fresh_station}
 use Rattle.lighting_frames.specs.declared.Station.{Station}
@@ -26,6 +25,7 @@ use Rattle.lighting_panel.specs.Engine.Judging.{padded}
 use Rattle.lighting_panel.specs.Engine.Executing.{frame_step}
 use Rattle.lighting_panel.specs.Paper.Secrecy.{Premise, neither_meets_one, station_counts, output_counts, its_mark, panel_times, its_record, learnt, premises}
 use Rattle.lighting_panel.specs.Paper.Worked.{asked}
+use Rattle.lighting_outputs.specs.Paper.Passing.{running}
 
 -- AN OUTPUT at 10,000 ms: slot 1 holds 47.25 percent, or another level, and wins; slot 7 holds 30, or
 -- another. The relay may be on or off there, between 45 and 50 percent
@@ -38,7 +38,7 @@ output_of fade slots activity burning operation reverse binary =
       settings = fresh_settings fade;
       slots = slots;
       activity = activity;
-      timer = Off;
+      timer = None;
       burning = burning;
       last = record { operation = operation; duration = Omitted };
       relay = record { active = 3276800; inactive = 2949120; reverse = reverse; binary = binary };
@@ -179,7 +179,7 @@ busy =
       settings = fresh_settings 1000;
       slots = filled (filled fresh_output.slots 5 3129344) 7 0;
       activity = Warned (record { phase = Delay; owner = 7; level = 3129344; turn = 9000; over = 12000 });
-      timer = Running 3 20000;
+      timer = running 3 20000;
       burning = 5000;
       last = record { operation = Stop; duration = Omitted };
       relay = record { active = 3276800; inactive = 2949120; reverse = false; binary = false };
