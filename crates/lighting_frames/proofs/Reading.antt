@@ -31,6 +31,7 @@ use Rattle.lighting_outputs.proofs.Rules.Rows.{priority_of, change_good}
 use Rattle.lighting_outputs.proofs.Rules.CommandRanges.{command_request_good}
 use Rattle.lighting_frames.proofs.Tagging.Refused.{tagged_good}
 use Rattle.lighting_outputs.specs.declared.Refusal.{Refusal}
+use Rattle.lighting_outputs.specs.Paper.Answers.{refusal_number}
 
 -- KINDS 02 TO 05
 level_good : (p : Parameters) (i : ℕ) (l : Option ℕ) → Slot i → ((v : ℕ) → l ≡ Some v → (least_level * min 1 v ≤ v) × (v ≤ greatest_level)) → RequestInRange p (write_level i l)
@@ -87,7 +88,7 @@ pub record Called (p : Parameters) (c : ℕ) (b : Bytes) (call : Call) : Type 0 
   pub kind : is_call (byte_at b 0) ≡ true
 
 abbrev pub FrameInRange : Parameters → ℕ → Bytes → Result Frame Refusal → Type 0
-FrameInRange p c b (Err r) = 2 ≤ r
+FrameInRange p c b (Err refusal) = 2 ≤ refusal_number refusal
 FrameInRange p c b (Ok (Clock t)) = t < 2 ^ 48
 FrameInRange p c b (Ok (Calls call)) = Called p c b call
 

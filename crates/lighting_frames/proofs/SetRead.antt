@@ -30,11 +30,13 @@ use Rattle.lighting_frames.proofs.KindTable.{action_byte}
 use Rattle.lighting_frames.proofs.Tagging.Bodies.{well_tagged_lem}
 use Rattle.lighting_frames.proofs.Tagging.Commands.{whole_read}
 use Rattle.lighting_frames.proofs.Tagging.Only.{operation_of_lem, at_most, time_same}
+use Rattle.lighting_outputs.specs.declared.Refusal.{Refusal}
+use Rattle.lighting_outputs.specs.declared.Refusal.TheVariants.{BadTags, BadFields}
 
 pub data SetRead (action : Action) (b : Bytes) : Type 0 where
   none : {request : Request} → ((p : Parameters) → request_of p action b ≡ request)
       → fade_time_in b ≡ None → SetRead action b
-  refuses : {refusal : ℕ} → ((p : Parameters) → request_of p action b ≡ Err refusal) → SetRead action b
+  refuses : {refusal : Refusal} → ((p : Parameters) → request_of p action b ≡ Err refusal) → SetRead action b
   writes : (property : Property) (x : ℕ) → ((p : Parameters) → request_of p action b ≡ change_of p property x)
       → fade_time_in b ≡ (when same FadeTime property then Some x else None) → SetRead action b
   commands : (operation : Operation) (duration : Option ℕ)
@@ -82,5 +84,5 @@ set_read CommandsTagged b byte =
     (λ own.
     let carried = own_fade f (well_tagged_lem body well).known own in
     commands (operation_of f) (time_of f.duration) (λ p. rw (well, own)) (rw byte carried))
-    (λ foreign. refuses {refusal = 15} (λ p. rw (well, foreign))))
-    (λ ill. refuses {refusal = 14} (λ p. rw ill))
+    (λ foreign. refuses {refusal = BadFields} (λ p. rw (well, foreign))))
+    (λ ill. refuses {refusal = BadTags} (λ p. rw ill))

@@ -41,7 +41,7 @@ asking call request =
     record { station = call.station; number = call.number; time = call.time; output = call.output; request = request }
 
 pub data ShortenedFrame (between : Bool) : Result Frame Refusal → Result Frame Refusal → Type 0 where
-  bad : {refusal : ℕ} → ShortenedFrame between (Err refusal) (Err refusal)
+  bad : {refusal : Refusal} → ShortenedFrame between (Err refusal) (Err refusal)
   clocked : {t : ℕ} → between ≡ false → ShortenedFrame between (Ok (Clock t)) (Ok (Clock t))
   asks : (call : Call) (request : Request) → Shortened between call.request request
       → ShortenedFrame between (Ok (Calls call)) (Ok (Calls (asking call request)))

@@ -4,7 +4,7 @@ use Prim.Native.Nat.{ℕ}
 use Rattle.lighting_outputs.specs.Engine.Advance.{sooner}
 use Rattle.lighting_outputs.specs.Engine.Light.{count_before, count_since, lit_by_pace, lit_in_movement}
 use Rattle.lighting_outputs.specs.Paper.Acting.{acted, served, Served}
-use Rattle.lighting_outputs.specs.Paper.Answers.{answer_bytes, refusal_number, level_answered, Request}
+use Rattle.lighting_outputs.specs.Paper.Answers.{answer_bytes, level_answered, Request}
 use Rattle.lighting_outputs.specs.Paper.Commands.{without_warning, activity_without_warning, stopped, effect, timed}
 use Rattle.lighting_outputs.specs.Paper.Operations.{operation_number, fields_of, duration_field}
 use Rattle.lighting_outputs.specs.Paper.Parameters.{Parameters}
@@ -62,9 +62,6 @@ served_on x0 x1 x2 x3 x4 k r e p = rw e p
 
 pub answer_bytes_on : (x0 : Answer) (k : Answer) (r : List ℕ) → x0 ≡ k → r ≡ answer_bytes k → r ≡ answer_bytes x0
 answer_bytes_on x0 k r e p = rw e p
-
-pub refusal_number_on : (x0 : Refusal) (k : Refusal) (r : ℕ) → x0 ≡ k → r ≡ refusal_number k → r ≡ refusal_number x0
-refusal_number_on x0 k r e p = rw e p
 
 pub level_answered_on : (x0 : Option ℕ) (k : Option ℕ) (r : Answer) → x0 ≡ k → r ≡ level_answered k → r ≡ level_answered x0
 level_answered_on x0 k r e p = rw e p

@@ -1,5 +1,6 @@
 -- COMMAND, THEN READ 0F to 14: kind k, 10 to 1A, with the 32-bit fields x, y, z, answered Done; then kind 05
 -- answers the fields as they were sent, Absent where the operation has none.
+use Rattle.std.specs.Prelude.{None, Option, Some}
 use mathlib.Core.Path.{◌≡◌, refl, ◌∙◌}
 use mathlib.Core.List.{List, [], ◌∷◌, map}
 use Prim.Native.Nat.{ℕ, ◌^◌, ◌<◌}
@@ -29,6 +30,7 @@ use Rattle.lighting_outputs.proofs.Patterns.{level_field_kept, amount_field_kept
 use Rattle.lighting_frames.proofs.Consequences.Bytes.{asked}
 use Rattle.lighting_outputs.proofs.Consequences.Alone.{alone}
 use Rattle.lighting_outputs.proofs.Consequences.Reads.{reads, refused}
+use Rattle.lighting_outputs.specs.declared.Refusal.{Refusal}
 
 -- properties 0F to 14: last operation, level, rate, step, fade time, duration
 abbrev pub last : ℕ → Output → List Answer
@@ -77,13 +79,17 @@ module _ (p : Parameters) (t t' : ℕ) (o : Output) where
       (λ q f. rw f (λ h. rw q))
       (λ q f. rw f (by_bool (within 100 p.duration d) (λ g. rw g (λ h. refl)) (λ g. rw g (λ h. refused h))))))
 
-  of_command_request : (k : Operation) (d : ℕ) (l : List Answer) → (fields_refusal p (fields_of k) ≡ 0 → back k d ≡ l)
+  by_met : (met : Option Refusal) (k : Operation) (d : ℕ) (l : List Answer) → (met ≡ None → back k d ≡ l)
+      → (alone t o (command_request_by p met k (plain_duration d))).answer ≡ Done
+      → last t' (alone t o (command_request_by p met k (plain_duration d))).output ≡ l
+  unfolding command_request_by
+  by_met (Some refusal) k d l f h = unfold served in (refused h)
+  by_met None k d l f h = of_command_with_duration k d h ∙ f refl
+
+  of_command_request : (k : Operation) (d : ℕ) (l : List Answer) → (fields_refusal p (fields_of k) ≡ None → back k d ≡ l)
       → (alone t o (command_request p k d)).answer ≡ Done → last t' (alone t o (command_request p k d)).output ≡ l
-  unfolding command_request command_of command_request_by when◌then◌else◌
-  of_command_request k d l f =
-      by_eq (fields_refusal p (fields_of k)) 0
-      (λ u e. rw e (λ h. of_command_with_duration k d h ∙ f u))
-      (λ u e. rw e (λ h. unfold served in (refused h)))
+  unfolding command_request command_of
+  of_command_request k d l f = by_met (fields_refusal p (fields_of k)) k d l f
 
   -- A FRAME of kind k: its fields are the words at 13, 17 and 21
   module _ (b : Bytes) where

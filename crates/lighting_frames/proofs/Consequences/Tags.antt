@@ -136,7 +136,7 @@ module _ (body : Bytes) (eighteen : length body ≡ 18) (tag : byte_at body 1 �
 
 -- A TAGGED DURATION: FFFFFFFF meets 12; missing is what FFFFFFFF is in the plain kind; any other is the plain
 -- kind's
-pub duration_all_ones : (p : Parameters) → startable p ≡ true → (o : Operation) → fields_refusal p (fields_of o) ≡ 0 → tagged_request p (reads o (Some 0xffff_ffff)) ≡ Err WholeOutOfRange
+pub duration_all_ones : (p : Parameters) → startable p ≡ true → (o : Operation) → fields_refusal p (fields_of o) ≡ None → tagged_request p (reads o (Some 0xffff_ffff)) ≡ Err WholeOutOfRange
 unfolding tagged_request command_of command_request_by command_with_duration command_lasting within when◌then◌else◌
 duration_all_ones p allowed o e =
     rw (e, leb_no {a = 0xffff_ffff} {b = p.duration} (omega (arith, (startable_of p allowed).duration)))

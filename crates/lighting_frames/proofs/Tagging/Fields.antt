@@ -42,8 +42,8 @@ three_bits = (omega arith, (omega arith, (omega arith, (omega arith, (omega arit
 pub sizes_length : (number : ℕ) (fields : List (Option TagContent)) → length (bytes_from number fields) ≡ sizes fields
 unfolding bytes_from sizes field_bytes field_size
 sizes_length number [] = refl
-sizes_length number (Holds count value ∷ fields) =
-    omega (arith, length-append (octets count value) (bytes_from (suc number) fields), length_octets count value, sizes_length (suc number) fields)
+sizes_length number (Some content ∷ fields) =
+    omega (arith, length-append (octets content.count content.value) (bytes_from (suc number) fields), length_octets content.count content.value, sizes_length (suc number) fields)
 sizes_length number (None ∷ fields) = omega (arith, sizes_length (suc number) fields)
 
 -- WRITTEN, THEN READ. The next tag is one of a higher number, or there is none: so a missing field is found
@@ -52,10 +52,10 @@ outside : (allowed : OctetRange) (n number : ℕ) (fields : List (Option TagCont
     → within (context_tag n allowed.least) (context_tag n allowed.most) (byte_at (bytes_from number fields) 0) ≡ false
 unfolding within byte_at bytes_from field_bytes when◌then◌else◌
 outside allowed n number [] m h = rw (leb_no {a = context_tag n allowed.least} {b = 0} (omega arith))
-outside allowed n number (Holds count value ∷ fields) m h =
+outside allowed n number (Some content ∷ fields) m h =
     by_bool
-    (leb (context_tag n allowed.least) (context_tag number count))
-    (λ e. rw (e, leb_no {a = context_tag number count} {b = context_tag n allowed.most} (omega arith)))
+    (leb (context_tag n allowed.least) (context_tag number content.count))
+    (λ e. rw (e, leb_no {a = context_tag number content.count} {b = context_tag n allowed.most} (omega arith)))
     (λ e. rw e)
 outside allowed n number (None ∷ fields) m h = outside allowed n (suc number) fields m (omega arith)
 
@@ -82,11 +82,11 @@ unfolding fields_from bytes_from field_bytes field_size
 read_back number [] [] t f = refl
 read_back number [] (field ∷ fields) t f = absurd f
 read_back number (allowed ∷ more) [] t f = absurd f
-read_back number (allowed ∷ more) (Holds count value ∷ fields) t f =
+read_back number (allowed ∷ more) (Some content ∷ fields) t f =
     let left = bytes_from (suc number) fields in
-    let dropped : drop count (octets count value ++ left) ≡ left = drop_at (octets count value) left count (length_octets count value) in
-    rw (held_read allowed number count value left f.0, dropped)
-    (ap (λ (l : List (Option TagContent)). holds count value ∷ l) (read_back (suc number) more fields t.1 f.1))
+    let dropped : drop content.count (octets content.count content.value ++ left) ≡ left = drop_at (octets content.count content.value) left content.count (length_octets content.count content.value) in
+    rw (held_read allowed number content.count content.value left f.0, dropped)
+    (ap (λ (l : List (Option TagContent)). holds content.count content.value ∷ l) (read_back (suc number) more fields t.1 f.1))
 read_back number (allowed ∷ more) (None ∷ fields) t f =
     rw (missing_read allowed number (bytes_from (suc number) fields) (outside allowed number (suc number) fields t.0 (omega arith)))
     (ap (λ (l : List (Option TagContent)). None ∷ l) (read_back (suc number) more fields t.1 f.1))

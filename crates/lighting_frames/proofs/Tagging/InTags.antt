@@ -25,6 +25,7 @@ use Rattle.lighting_levels.proofs.Split.{by_bool, by_eq, also_both, also_yes, eq
 use Rattle.lighting_frames.proofs.KindTable.{kind_byte}
 use Rattle.lighting_frames.proofs.Tagging.Bodies.{sizes_written, fields_read, well_written}
 use Rattle.lighting_frames.proofs.Tagging.PlainInTags.{plain_body, Same, SameIf, same}
+use Rattle.lighting_outputs.specs.declared.Refusal.{Refusal}
 
 -- A FRAME IN TAGS, of a plain command's frame b and its fields f
 module _ {action : Action} (b : Bytes) (f : TagFields) (s : Same action b f) where
@@ -175,7 +176,7 @@ apart b b' {a} {a'} s s' n n' g =
 pub data NeverMade (b : Bytes) : Type 0 where
   other_kind : byte_at b 0 ≢ 0x1b → NeverMade b
   other_length : length b ≢ 31 → NeverMade b
-  unreadable : {refusal : ℕ} → read_body (drop 13 b) ≡ Err refusal → NeverMade b
+  unreadable : {refusal : Refusal} → read_body (drop 13 b) ≡ Err refusal → NeverMade b
 
 never_of : (b b' : Bytes) {a : Bytes} → SentAs b a → NeverMade b' → a ≡ b' → b ≡ b'
 unfolding byte_at

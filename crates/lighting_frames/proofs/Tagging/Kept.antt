@@ -37,6 +37,8 @@ use Rattle.lighting_frames.proofs.Tagging.Fields.{Fits, AllFit}
 use Rattle.lighting_frames.proofs.Tagging.Bodies.{well_tagged_lem, fields_fit}
 use Rattle.lighting_frames.proofs.Tagging.Commands.{Word, Exact, ExactOperation, lasting_word, reads_written}
 use Rattle.lighting_frames.proofs.Tagging.Only.{IsReal, IsTime, held_word, at_most, operation_of_lem}
+use Rattle.lighting_outputs.specs.declared.Refusal.{Refusal}
+use Rattle.lighting_outputs.specs.declared.Refusal.TheVariants.{NotWritable}
 
 -- AN OPERATION AS FRAMES BRING IT: each REAL has been read from a pattern of 32 bits, and a fade time has 32
 -- bits
@@ -44,11 +46,11 @@ data Patterned : Option Float → Type 0 where
   pattern : (v : ℕ) → v < 2 ^ 32 → Patterned (Some (real v))
   none : Patterned None
 
-level_exact : {x : Option Float} → Patterned x → level_field_refusal x ≡ 0 → Exact x
+level_exact : {x : Option Float} → Patterned x → level_field_refusal x ≡ None → Exact x
 level_exact (pattern v h) r = let k = (level_field_kept v h r).written in (ap real k, rw k h)
 level_exact none r = tt
 
-amount_exact : {x : Option Float} → Patterned x → amount_field_refusal x ≡ 0 → Exact x
+amount_exact : {x : Option Float} → Patterned x → amount_field_refusal x ≡ None → Exact x
 amount_exact (pattern v h) r = let k = (amount_field_kept v h r).written in (ap real k, rw k h)
 amount_exact none r = tt
 
@@ -58,7 +60,7 @@ record Brought (o : Operation) : Type 0 where
   step : Patterned (fields_of o).step
   fade : Word (fields_of o).fade
 
-exact_operation : (p : Parameters) (o : Operation) → Brought o → fields_refusal p (fields_of o) ≡ 0 → ExactOperation o
+exact_operation : (p : Parameters) (o : Operation) → Brought o → fields_refusal p (fields_of o) ≡ None → ExactOperation o
 exact_operation p o b r =
     let n = none_met p (fields_of o) r in
     record {
@@ -77,7 +79,7 @@ data Asks (p : Parameters) : Request → Type 0 where
   nothing : {r : Request} → AsksNoCommand r → Asks p r
 
 -- kinds 02 to 05 ask for none, and neither does what is refused
-refused_none : (r : ℕ) → AsksNoCommand (Err r)
+refused_none : (r : Refusal) → AsksNoCommand (Err r)
 refused_none r = λ k h. cc
 
 reading_none : (n : Property) → AsksNoCommand (Ok (Read n))
@@ -108,7 +110,7 @@ by_none Limit n x = to_none n (limit_of (real x))
 by_none Amount n x = by_bool (is_amount (real x)) (λ e. rw e (λ k h. cc)) (λ e. rw e (refused_none _))
 by_none (Whole low high) n x = by_bool (within low high x) (λ e. rw e (λ k h. cc)) (λ e. rw e (refused_none _))
 by_none Priority n x = by_bool (is_priority x) (λ e. rw e (λ k h. cc)) (λ e. rw e (refused_none _))
-by_none ReadOnly n x = refused_none 9
+by_none ReadOnly n x = refused_none NotWritable
 
 change_none : (p : Parameters) (n : Property) (x : ℕ) → AsksNoCommand (change_of p n x)
 unfolding change_of

@@ -111,11 +111,11 @@ abbrev Spelled : Option Float → ℕ → Type 0
 Spelled (Some x) v = bits x ≡ v
 Spelled None v = Unit {0}
 
-level_spelled : (x : Option Float) (v : ℕ) → v < 2 ^ 32 → IsReal (real v) x → level_field_refusal x ≡ 0 → Spelled x v
+level_spelled : (x : Option Float) (v : ℕ) → v < 2 ^ 32 → IsReal (real v) x → level_field_refusal x ≡ None → Spelled x v
 level_spelled (Some x) v h e r = rw e (level_field_kept v h (rw e at r)).written
 level_spelled None v h e r = tt
 
-amount_spelled : (x : Option Float) (v : ℕ) → v < 2 ^ 32 → IsReal (real v) x → amount_field_refusal x ≡ 0 → Spelled x v
+amount_spelled : (x : Option Float) (v : ℕ) → v < 2 ^ 32 → IsReal (real v) x → amount_field_refusal x ≡ None → Spelled x v
 amount_spelled (Some x) v h e r = rw e (amount_field_kept v h (rw e at r)).written
 amount_spelled None v h e r = tt
 
@@ -156,7 +156,7 @@ at_most (Some content) h = le_of h
 at_most None h = omega arith
 
 pub tags_same : (p : Parameters) (f : TagFields) → AllFit tag_octets (listed f) → holds_at_most 10 f.operation ≡ true → own_tags (tags_of (operation_of f) (time_of f.duration)) f ≡ true
-    → fields_refusal p (fields_of (operation_of f)) ≡ 0 → tags_of (operation_of f) (time_of f.duration) ≡ f
+    → fields_refusal p (fields_of (operation_of f)) ≡ None → tags_of (operation_of f) (time_of f.duration) ≡ f
 unfolding own_tags tags_of
 tags_same p f fit known own ranges =
     let o = operation_of_lem f (at_most f.operation known) in

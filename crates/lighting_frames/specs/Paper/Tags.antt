@@ -1,7 +1,7 @@
 -- §1, 'LIGHTING COMMANDS IN BACNET'S OWN TAGGING': a command as clause 21 has it, in the context tags of
 -- clause 20.2, written and read. The reading is of the form alone, refusals 14 and 15: what is read meets the
 -- ranges of the plain kinds (`command_of`, Frames.antt).
-use Rattle.std.specs.Prelude.{Bool, true, false, List, ◌∷◌, ◌++◌, [], ℕ, suc, ◌+◌, ◌-◌, ◌*◌, leb, ltb, eqb, Float, length, get_or, take, drop, replicate, Option, Some, None, Result, Err}
+use Rattle.std.specs.Prelude.{Bool, true, false, List, ◌∷◌, ◌++◌, [], ℕ, suc, ◌+◌, ◌-◌, ◌*◌, leb, ltb, eqb, Float, length, get_or, take, drop, replicate, Option, Some, None, Result, Err, Ok}
 use Rattle.lighting_levels.specs.Paper.Choice.{when◌then◌else◌, ◌also◌, all_from}
 use Rattle.lighting_levels.specs.Paper.Level.{real, bits}
 use Rattle.lighting_levels.specs.Paper.Field.{byte_at, big_endian, octets}
@@ -15,7 +15,6 @@ use Rattle.lighting_frames.specs.declared.TagFields.{TagFields}
 use Rattle.lighting_frames.specs.declared.TaggedBody.{TaggedBody}
 use Rattle.lighting_frames.specs.declared.TaggedCommand.{TaggedCommand}
 use Rattle.lighting_outputs.specs.declared.Refusal.{Refusal}
-use Rattle.lighting_frames.specs.Paper.Tags.{holds, reads}
 use Rattle.lighting_outputs.specs.declared.Refusal.TheVariants.{BadTags, BadFields}
 
 -- A TAG. 'context tags (clause 20.2)': one octet before the content: the tag's number in the four high bits,
@@ -58,6 +57,10 @@ named fields =
       fade = get_or fields 4 None;
       duration = get_or fields 5 None;
     }
+
+-- a field that is there
+abbrev pub holds : ℕ → ℕ → Option TagContent
+holds count value = Some (record { count = count; value = value })
 
 -- how many bytes a field takes, its tag among them, and several
 unfoldable pub field_size : Option TagContent → ℕ
@@ -211,6 +214,10 @@ own_tags own f =
     also both_or_neither own.fade f.fade
     also fewest f.fade
     also fewest f.duration
+
+-- a body that is read
+abbrev pub reads : Operation → Option ℕ → Result TaggedCommand Refusal
+reads operation duration = Ok (record { operation = operation; duration = duration })
 
 -- THE READING of a body: its operation and its duration, or 14, or 15
 unfoldable pub read_fields : TagFields → Result TaggedCommand Refusal
