@@ -1,7 +1,5 @@
 -- FROM THE CALLS TO THE DEMAND: who calls `start` once and `frame` for each string of a list has demand 3.
-use Rattle.std.specs.Prelude.{Ok}
 use mathlib.Core.Path.{◌≡◌, refl, sym, ap, ap₂, ◌∙◌}
-use mathlib.Core.Bool.{true}
 use mathlib.Core.List.{List, [], ◌∷◌}
 use Prim.Native.Nat.{ℕ}
 use Rattle.lighting_outputs.specs.declared.Parameters.{Parameters}
@@ -15,7 +13,7 @@ use Rattle.lighting_outputs.specs.declared.Answer.TheVariants.{Done}
 use Rattle.lighting_panel.proofs.Demand.{demand_3, same_found}
 
 -- the calls come to what the list comes to
-pub calls_list : {e e' : Panel} {l : List Bytes} {given : List Answer} → Ok (Calls e) l given e' → (e' ≡ after e l) × (given ≡ answers e l)
+pub calls_list : {e e' : Panel} {l : List Bytes} {given : List Answer} → Calls e l given e' → (e' ≡ after e l) × (given ≡ answers e l)
 unfolding after answers
 calls_list none = (refl, refl)
 calls_list (call {l = l} {given = given} x z) =
@@ -31,7 +29,7 @@ answered p marks e b = sym (ap (λ (k : Step). k.answer) b)
 
 -- the same after a start
 called : (p : Parameters) (marks : ℕ) (e : Panel) {e₀ e' : Panel} {l : List Bytes} {given : List Answer}
-    → panel_result e₀ Done ≡ start_step p marks e → Ok (Calls e₀) l given e'
+    → panel_result e₀ Done ≡ start_step p marks e → Calls e₀ l given e'
     → (e' ≡ after (start_step p marks e).panel l) × (given ≡ answers (start_step p marks e).panel l)
 called p marks e b c = rw (← ap (λ (k : Step). k.panel) b) (calls_list c)
 
@@ -41,7 +39,7 @@ once seen [] = end
 once seen (b ∷ l) = own (once (b ∷ seen) l)
 
 pub conclude : (p : Parameters) (marks : ℕ) (e e₀ e' : Panel) (l : List Bytes) (given : List Answer) → Strings l
-    → panel_result e₀ Done ≡ start_step p marks e → Ok (Calls e₀) l given e' → Concluded p marks l given e'
+    → panel_result e₀ Done ≡ start_step p marks e → Calls e₀ l given e' → Concluded p marks l given e'
 conclude p marks e e₀ e' l given s b c =
     let d = demand_3 p marks e l l (once [] l) s (answered p marks e b) in
     let k = called p marks e b c in
@@ -66,7 +64,7 @@ shows p marks e' l given c = same_found e' (plain_after p marks (plain_start p) 
 pub conclude_again : (p : Parameters) (marks : ℕ) (e e₀ e' e'' : Panel) (l l' : List Bytes) (r : Again [] l l')
     (given given' : List Answer)
     → Strings l
-    → panel_result e₀ Done ≡ start_step p marks e → Ok (Calls e₀) l given e' → Ok (Calls e₀) l' given' e''
+    → panel_result e₀ Done ≡ start_step p marks e → Calls e₀ l given e' → Calls e₀ l' given' e''
     → ConcludedAgain l l' r given given' e' e''
 conclude_again p marks e e₀ e' e'' l l' r given given' s b c c' =
     let d = demand_3 p marks e l l' r s (answered p marks e b) in

@@ -23,7 +23,6 @@ use Rattle.lighting_panel.specs.Paper.Panel.{Panel, panel_of, fresh_record, pane
 use Rattle.lighting_panel.specs.Engine.Judging.{restored, judged_by_number, judged_by_record, station_of, judged_by_station, decide}
 use Rattle.lighting_panel.specs.Engine.Executing.{execute, frame_step}
 use Rattle.lighting_outputs.specs.declared.Output.{Output}
-use Rattle.lighting_outputs.specs.declared.Answer.{Answer}
 use Rattle.lighting_outputs.specs.declared.Answer.TheVariants.{Done, Refused}
 use Rattle.lighting_frames.specs.declared.Frame.{Frame}
 use Rattle.lighting_frames.specs.declared.Frame.TheVariants.{Clock, Calls}

@@ -1,5 +1,5 @@
 -- DEMAND 3, whole.
-use mathlib.Core.Path.{◌≡◌, refl, ap, ◌∙◌}
+use mathlib.Core.Path.{◌≡◌, refl, ◌∙◌}
 use mathlib.Core.Bool.{true}
 use mathlib.Core.List.{List, []}
 use Prim.Native.Nat.{ℕ}
@@ -11,7 +11,7 @@ use Rattle.lighting_frames.specs.Paper.Frames.{Bytes, Strings}
 use Rattle.lighting_frames.specs.Paper.Stations.{fresh_station}
 use Rattle.lighting_panel.specs.Paper.Panel.{Panel, counts_sound, fresh_panel, start_step}
 use Rattle.lighting_panel.specs.Paper.Plain.{Plain, plain_start}
-use Rattle.lighting_panel.specs.Paper.Demand.{found, found_in, found_plain, after, plain_after, plain_answers, Again, NeverOne, Demand}
+use Rattle.lighting_panel.specs.Paper.Demand.{found_in, found_plain, after, plain_after, plain_answers, Again, NeverOne, Demand}
 use Rattle.lighting_outputs.specs.declared.Answer.{Answer}
 use Rattle.lighting_outputs.specs.declared.Answer.TheVariants.{Done, Refused}
 use Rattle.lighting_levels.proofs.Split.{by_bool}

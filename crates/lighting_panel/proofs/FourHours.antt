@@ -2,7 +2,6 @@
 -- 86,400,000, find the same, keep the same station records and time and give the same answers after every
 -- list without a longer fade time. It is asked of the frames alone to which the old panel answers Done; and
 -- on every other list an answer differs.
-use Rattle.std.specs.Prelude.{Ok}
 use mathlib.Core.Path.{◌≡◌, refl, sym, ap, ◌∙◌}
 use mathlib.Core.List.{List, [], ◌∷◌}
 use lib.ListN.{length, replicate}
@@ -82,7 +81,7 @@ none_longer (b ∷ l) (a ∷ given) none = (λ isDone. none.0, none_longer l giv
 -- WHO CALLS `start` with that set and then `frame` for each string of the list has the old panel's records,
 -- time and answers
 pub called_as_old : (e e₀ e' : Panel) (l : List Bytes) (given : List Answer) → Strings l → panel_result e₀ Done ≡ start_now e
-    → Ok (Calls e₀) l given e' → NoneLongerDone l (old_answers (started_old e) l)
+    → Calls e₀ l given e' → NoneLongerDone l (old_answers (started_old e) l)
     → (without_set e' ≡ old_after (started_old e) l) × (given ≡ old_answers (started_old e) l)
 called_as_old e e₀ e' l given strings start calls none =
     let came = calls_list calls in

@@ -3,7 +3,6 @@
 -- looks at a kind of request.
 use Rattle.std.specs.Prelude.{Result, Ok, Err}
 use mathlib.Core.Path.{◌≡◌, refl, sym, ap, ◌∙◌}
-use mathlib.Core.Logic.{◌≢◌}
 use mathlib.Core.Bool.{true}
 use mathlib.Core.List.{List, [], ◌∷◌, map}
 use Prim.Native.Nat.{ℕ, zero, suc, ◌^◌, ◌≤◌, ◌<◌}
@@ -17,7 +16,6 @@ use Rattle.lighting_levels.specs.Paper.Field.{byte_at}
 use Rattle.lighting_frames.specs.Paper.Kinds.{kind_row, kind_length, is_call}
 use Rattle.lighting_frames.specs.Paper.Frames.{Bytes, Octets, Strings, parse}
 use Rattle.lighting_outputs.specs.Engine.Advance.{greatest_count, advance}
-use Rattle.lighting_outputs.specs.Paper.Rules.{sound}
 use Rattle.lighting_frames.specs.Paper.Stations.{station_sound, fresh_station}
 use Rattle.lighting_outputs.specs.Paper.Fresh.{fresh_for}
 use Rattle.lighting_outputs.specs.Paper.Tenants.{is_tenant}
@@ -40,12 +38,12 @@ use Rattle.lighting_outputs.specs.Paper.Startable.{startable}
 use Rattle.lighting_outputs.proofs.Rules.Startable.{startable_of}
 use Rattle.lighting_frames.proofs.Reading.{Called, FrameInRange, frame_in_range}
 use Rattle.lighting_panel.proofs.Lengths.{padded_kind, restored_padded}
-use Rattle.lighting_outputs.proofs.AnswersApart.{refusal_of}
 use Rattle.lighting_outputs.specs.declared.Answer.TheVariants.{Done}
 use Rattle.lighting_outputs.proofs.Acts.Answered.{NotOne, not_one}
 use Rattle.lighting_panel.proofs.Table.{served_not_one, AllSound, all_tested, all_fresh, run_plain_advance, all_advance, served_sound, served_length}
 use Rattle.lighting_outputs.specs.declared.Refusal.{Refusal}
 use Rattle.lighting_outputs.specs.declared.Refusal.TheVariants.{PastNumber, PastTime}
+use Rattle.lighting_outputs.specs.Paper.Answers.{refusal_number}
 
 -- THE LINK between the station records and the list so far. The engine's panel is rebuilt from the plain one
 abbrev pub joined : Parameters → ℕ → List Station → PlainState → Panel
@@ -153,7 +151,7 @@ pub record Arrived (p : Parameters) (c : ℕ) (w : PlainState) (b : Bytes) (call
   pub due : w.panel.time ≤ call.time
 
 abbrev pub Moved : Parameters → ℕ → PlainState → Bytes → Result Verdict Refusal → Type 0
-Moved p c w b (Err r) = 2 ≤ r
+Moved p c w b (Err refusal) = 2 ≤ refusal_number refusal
 Moved p c w b (Ok (Copied a)) = NotOne a
 Moved p c w b (Ok (Clocked t)) = (w.panel.time ≤ t) × (t < 2 ^ 48)
 Moved p c w b (Ok (Arrives call)) = Arrived p c w b call

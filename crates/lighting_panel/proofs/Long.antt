@@ -23,12 +23,14 @@ use Rattle.lighting_frames.specs.declared.Frame.{Frame}
 use Rattle.lighting_levels.proofs.Split.{eqb_miss}
 use Rattle.lighting_frames.proofs.KindTable.{length_most}
 use Rattle.lighting_outputs.specs.declared.Refusal.{Refusal}
+use Rattle.lighting_outputs.specs.Paper.Answers.{refusal_number}
+use Rattle.lighting_outputs.specs.declared.Refusal.TheVariants.{BrokenRecords, UnknownKind, WrongLength}
 
 -- what refuses a string that is longer than any frame
-abbrev too_long : Kind → ℕ
-too_long NoKind = 2
-too_long ClockKind = 3
-too_long (CallKind action) = 3
+abbrev too_long : Kind → Refusal
+too_long NoKind = UnknownKind
+too_long ClockKind = WrongLength
+too_long (CallKind action) = WrongLength
 
 parse_by_long : (p : Parameters) (c l : ℕ) (k : Kind) (b : Bytes) → l < length b → parse_by p c l k b ≡ Err (too_long k)
 unfolding parse_by when◌then◌else◌
@@ -36,7 +38,7 @@ parse_by_long p c l NoKind b h = refl
 parse_by_long p c l ClockKind b h = rw (eqb_miss {a = length b} {b = l} (λ e. omega arith))
 parse_by_long p c l (CallKind action) b h = rw (eqb_miss {a = length b} {b = l} (λ e. omega arith))
 
-abbrev refusal : Bytes → ℕ
+abbrev refusal : Bytes → Refusal
 refusal b = too_long (kind_row (byte_at b 0)).kind
 
 parse_long : (p : Parameters) (c : ℕ) (b : Bytes) → longest_frame + 1 ≤ length b → parse p c b ≡ Err (refusal b)
@@ -65,12 +67,12 @@ decide_long e b f h = rw h
 pub frame_step_first : (e : Panel) (b : Bytes) → longest_frame + 1 ≤ length b → frame_step e b ≡ frame_step e (take (longest_frame + 1) b)
 unfolding frame_step
 frame_step_first e b h =
-    ap (λ (s : Step). when panel_sound e then s else record { panel = e; answer = Refused 1 })
+    ap (λ (s : Step). when panel_sound e then s else record { panel = e; answer = Refused (refusal_number BrokenRecords) })
     (alike (refusal b) (parse_long e.kept.parameters (length e.outputs) b h))
   where
-    refused : (b : Bytes) (r : ℕ) → parse e.kept.parameters (length e.outputs) b ≡ Err r → execute b e (decide e b) ≡ record { panel = e; answer = Refused r }
+    refused : (b : Bytes) (r : Refusal) → parse e.kept.parameters (length e.outputs) b ≡ Err r → execute b e (decide e b) ≡ record { panel = e; answer = Refused (refusal_number r) }
     refused b r q = rw (decide_long e b (Err r) q) (unfold judged_by_station judged_by_record execute in refl)
 
-    alike : (r : ℕ) → parse e.kept.parameters (length e.outputs) b ≡ Err r → execute b e (decide e b) ≡ execute (take (longest_frame + 1) b) e (decide e (take (longest_frame + 1) b))
+    alike : (r : Refusal) → parse e.kept.parameters (length e.outputs) b ≡ Err r → execute b e (decide e b) ≡ execute (take (longest_frame + 1) b) e (decide e (take (longest_frame + 1) b))
     alike r q =
         refused b r q ∙ sym (refused (take (longest_frame + 1) b) r (sym (parse_first e.kept.parameters (length e.outputs) b h) ∙ q))

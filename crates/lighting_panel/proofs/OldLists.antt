@@ -52,6 +52,7 @@ use Rattle.lighting_panel.proofs.Consequences.Others.{every_at}
 use Rattle.lighting_panel.proofs.OldPanel.{today, sound_then, Cut, Compared, turned_down, copied_both, short, refused_both, cut_off, compared, frame_by}
 use Rattle.lighting_outputs.specs.declared.Refusal.{Refusal}
 use Rattle.lighting_outputs.specs.declared.Refusal.TheVariants.{WholeOutOfRange}
+use Rattle.lighting_outputs.specs.Paper.Answers.{refusal_number}
 
 -- WHAT IS TAKEN IS ANSWERED DONE: a command, and a write of Fade_Time, to a record that keeps the rules
 limits : (p : Parameters) (t : ℕ) (o : Output) → sound p t o ≡ true → o.settings.min ≤ o.settings.max
@@ -195,14 +196,14 @@ module _ (c : ℕ) (k : List Station) (w : PlainState) (b : Bytes) (octets : Oct
   frame_short were alike isDone = by (compared e b)
     where
       by : Compared e b → carries_longer b ≡ false
-      by (turned_down {r = r} before now) = absurd (never_done r (sym (old_answer before) ∙ isDone))
+      by (turned_down {r = r} before now) = absurd (never_done (refusal_number r) (sym (old_answer before) ∙ isDone))
       by (copied_both {a = a} before now) =
           let known = judged_short w.past b (parse p (length w.panel.outputs) b) were in
           let copy : CopyShort b (Ok (Copied a)) = rw (sym verdict ∙ now) at known in
           copy (sym (old_answer before) ∙ isDone)
       by (short none both) = none
       by (refused_both {r = r} call asked before now) =
-          absurd (never_done r (sym (rw asked at (old_answer before)) ∙ isDone))
+          absurd (never_done (refusal_number r) (sym (rw asked at (old_answer before)) ∙ isDone))
       by (cut_off z) = absurd (never_done 12 (sym (today_refuses z) ∙ alike ∙ isDone))
 
 -- EVERY LIST, from a panel that a list has left

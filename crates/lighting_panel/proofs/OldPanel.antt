@@ -90,7 +90,7 @@ sound_then e h =
 
 -- THE VERDICT, by document 01's numbers and by four hours: at most what is asked differs
 pub data ShortenedVerdict (between : Bool) : Result Verdict Refusal → Result Verdict Refusal → Type 0 where
-  turned : {r : ℕ} → ShortenedVerdict between (Err r) (Err r)
+  turned : {r : Refusal} → ShortenedVerdict between (Err r) (Err r)
   copied : {a : Answer} → ShortenedVerdict between (Ok (Copied a)) (Ok (Copied a))
   timed : {t : ℕ} → between ≡ false → ShortenedVerdict between (Ok (Clocked t)) (Ok (Clocked t))
   arrives : (call : Call) (request : Request) → Shortened between call.request request
@@ -149,14 +149,14 @@ pub record Cut (e : OldPanel) (b : Bytes) : Type 0 where
 -- THE TWO VERDICTS on every string of bytes: turned down alike, or copies; a frame without a longer fade
 -- time; a first arrival that both refuse; or one that is cut
 pub data Compared (e : OldPanel) (b : Bytes) : Type 0 where
-  turned_down : {r : ℕ} → old_decide e b ≡ Err r → decide (today e) b ≡ Err r → Compared e b
+  turned_down : {r : Refusal} → old_decide e b ≡ Err r → decide (today e) b ≡ Err r → Compared e b
   copied_both : {a : Answer} → old_decide e b ≡ Ok (Copied a) → decide (today e) b ≡ Ok (Copied a) → Compared e b
   short : carries_longer b ≡ false → decide (today e) b ≡ old_decide e b → Compared e b
-  refused_both : {r : ℕ} (call : Call) → call.request ≡ Err r → old_decide e b ≡ Ok (Arrives call)
+  refused_both : {r : Refusal} (call : Call) → call.request ≡ Err r → old_decide e b ≡ Ok (Arrives call)
       → decide (today e) b ≡ Ok (Arrives call) → Compared e b
   cut_off : Cut e b → Compared e b
 
-arriving : (call : Call) {request : Request} → call.request ≡ request → Ok (Arrives (asking call request)) ≡ Ok (Arrives call)
+arriving : (call : Call) {request : Request} → call.request ≡ request → ◌≡◌ {A = Result Verdict Refusal} (Ok (Arrives (asking call request))) (Ok (Arrives call))
 arriving call asked = ap (λ (r : Request). Ok (Arrives (asking call r))) (sym asked)
 
 pub compared : (e : OldPanel) (b : Bytes) → Compared e b

@@ -72,7 +72,7 @@ output_count e h = eq_of (also_both (also_both (also_both h).1).0).0
 
 -- WHAT A VERDICT on such a string may be: it is turned down, is a copy, or arrives, at an output of the table
 data Judged05 (e : Panel) (b : Bytes) : Result Verdict Refusal → Type 0 where
-  turned : {r : ℕ} → Judged05 e b (Err r)
+  turned : {r : Refusal} → Judged05 e b (Err r)
   copied : {a : Answer} → Judged05 e b (Ok (Copied a))
   comes : e.kept.time ≤ moment b → addressed b < length e.outputs → Judged05 e b (Ok (Arrives (reading b)))
 

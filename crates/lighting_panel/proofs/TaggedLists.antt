@@ -1,8 +1,8 @@
 -- IN LISTS TOO (§1): any commands of a list sent in tags instead, every copy of a frame like its first: what
 -- is found and every answer stay, if no frame of the list is what another one becomes.
-use Rattle.std.specs.Prelude.{Option, None}
+use Rattle.std.specs.Prelude.{Option, None, Some}
 use mathlib.Core.Path.{◌≡◌, refl, sym, ap, ◌∙◌}
-use mathlib.Core.Bool.{Bool, true}
+use mathlib.Core.Bool.{Bool}
 use mathlib.Core.List.{List, ◌∷◌, map, []}
 use Prim.Native.Nat.{ℕ, suc, ◌+◌, ◌-◌, ◌≤◌}
 use native.Mathlib.Omega.{arith}
@@ -37,9 +37,9 @@ unfolding bytes_from field_bytes
 tags_octets number [] [] t f h = tt
 tags_octets number [] (field ∷ fields) t f h = absurd f
 tags_octets number (allowed ∷ more) [] t f h = absurd f
-tags_octets number (allowed ∷ more) (Holds count value ∷ fields) t f h =
+tags_octets number (allowed ∷ more) (Some content ∷ fields) t f h =
     let rest = tags_octets (suc number) more fields t.1 f.1 (omega arith) in
-    (omega (arith, f.0.1, t.0), appended_octets (octets count value) (bytes_from (suc number) fields) (spelled_octets count value) rest)
+    (omega (arith, f.0.1, t.0), appended_octets (octets content.count content.value) (bytes_from (suc number) fields) (spelled_octets content.count content.value) rest)
 tags_octets number (allowed ∷ more) (None ∷ fields) t f h = tags_octets (suc number) more fields t.1 f.1 (omega arith)
 
 body_octets : (f : TagFields) → AllFit tag_octets (listed f) → length (tag_bytes f) ≤ most_tagged → Octets (body_bytes f)

@@ -23,7 +23,6 @@ use Rattle.lighting_outputs.specs.declared.OutputRequest.TheVariants.{Write, Emp
 use Rattle.lighting_outputs.specs.declared.Output.{Output}
 use Rattle.lighting_outputs.specs.declared.Outcome.{Outcome}
 use Rattle.lighting_outputs.proofs.Acts.Acted.{by_change}
-use Rattle.lighting_outputs.specs.Paper.Answers.{refusal_number}
 
 -- an answer that is not refusal 1
 pub record NotOne (a : Answer) : Type 0 where

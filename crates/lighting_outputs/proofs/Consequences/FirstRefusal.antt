@@ -2,7 +2,7 @@
 -- decides. A level out of range is 11, whatever is wrong with the rate, the fade time and the duration behind
 -- it; so are a rate and a step before the duration; a fade time is 12, and the duration comes last.
 use Rattle.std.specs.Prelude.{Option, Some, None, Err}
-use mathlib.Core.Path.{◌≡◌, refl}
+use mathlib.Core.Path.{◌≡◌}
 use mathlib.Core.Logic.{◌⊎◌, inl, inr}
 use mathlib.Core.Bool.{false}
 use mathlib.Core.List.{[], ◌∷◌, map}
@@ -16,7 +16,7 @@ use Rattle.lighting_outputs.specs.Paper.Parameters.{Parameters}
 use Rattle.lighting_levels.specs.Paper.Level.{level_of, amount_of}
 use Rattle.lighting_outputs.specs.Paper.Rows.{within, meets}
 use Rattle.lighting_outputs.specs.Paper.Operations.{fields_of}
-use Rattle.lighting_outputs.specs.Paper.Requests.{level_field_refusal, amount_field_refusal, time_field_refusal, first_refusal, fields_refusal, command_lasting, command_with_duration, command_request_by, command_of, plain_duration, command_request}
+use Rattle.lighting_outputs.specs.Paper.Requests.{level_field_refusal, amount_field_refusal, time_field_refusal, first_refusal, fields_refusal, command_lasting, command_with_duration, command_request_by, command_of}
 use Rattle.lighting_outputs.specs.declared.Operation.{Operation}
 use Rattle.lighting_outputs.specs.declared.Operation.TheVariants.{FadeTo, FadeToOver, RampTo, RampToAtRate, StepUpBy, StepDownBy, Goto}
 use Rattle.lighting_levels.proofs.Split.{by_bool, eqb_miss, leb_no}

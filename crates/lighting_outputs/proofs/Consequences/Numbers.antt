@@ -3,7 +3,6 @@
 use Rattle.std.specs.Prelude.{Some, Ok, Err, None}
 use mathlib.Core.Path.{◌≡◌, refl}
 use mathlib.Core.List.{[], ◌∷◌}
-use mathlib.Core.Bool.{Bool}
 use Prim.Native.Nat.{ℕ, ◌-◌, ◌≤◌}
 use native.Mathlib.Omega.{arith}
 use lib.Dec.{eqb, leb, ltb}
@@ -13,7 +12,6 @@ use Rattle.lighting_outputs.specs.Paper.Fresh.{fresh_for, fresh_output}
 use Rattle.lighting_outputs.specs.Paper.Rows.{row_of, within, meets}
 use Rattle.lighting_outputs.specs.Paper.Requests.{time_field_refusal, command_lasting}
 use Rattle.lighting_outputs.specs.Paper.Rules.{times_sound, span_sound}
-use Rattle.lighting_outputs.specs.declared.Command.{Command}
 use Rattle.lighting_outputs.specs.declared.Duration.TheVariants.{Cancels, Lasts}
 use Rattle.lighting_outputs.specs.declared.Movement.{Movement}
 use Rattle.lighting_outputs.specs.declared.Operation.{Operation}

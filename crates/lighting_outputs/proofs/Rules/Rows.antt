@@ -23,7 +23,6 @@ use Rattle.lighting_outputs.proofs.Rules.Facts.{Slot, Meets}
 use Rattle.lighting_outputs.proofs.Rules.Tied.{within_of, slot_of}
 use Rattle.lighting_outputs.proofs.Rules.RequestInRange.{RequestInRange}
 use Rattle.lighting_outputs.specs.Paper.Slots.{slot_count}
-use Rattle.lighting_outputs.specs.Paper.Answers.{refusal_number}
 
 -- A WRITE's request is good, by the row
 pub priority_of : (n : ℕ) → is_priority n ≡ true → Slot (n - 1)

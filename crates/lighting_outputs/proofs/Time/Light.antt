@@ -18,7 +18,7 @@ use Rattle.lighting_outputs.specs.declared.Movement.{Movement}
 use Rattle.lighting_outputs.specs.declared.Activity.{Activity}
 use Rattle.lighting_outputs.specs.declared.Activity.TheVariants.{Still, Moving, Warned}
 use Rattle.lighting_outputs.specs.declared.Output.{Output}
-use Rattle.lighting_levels.proofs.Split.{by_eq, by_lt, by_le, leb_yes, leb_no, eqb_hit, eqb_miss}
+use Rattle.lighting_levels.proofs.Split.{by_eq, by_lt, by_le, leb_yes, leb_no}
 use Rattle.lighting_outputs.proofs.Time.Way.{distance_moved_most}
 
 -- ONE BY ONE: a lamp that gives light up to a moment, its turn, or from it on

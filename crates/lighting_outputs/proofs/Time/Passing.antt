@@ -6,10 +6,9 @@
 -- by one (Light.antt).
 use Rattle.std.specs.Prelude.{Option, Some, None}
 use mathlib.Core.Path.{◌≡◌, refl, sym, ap, ap₂, ◌∙◌}
-use mathlib.Core.Logic.{◌≢◌}
 use mathlib.Core.Bool.{true, false, false≢true}
 use mathlib.Core.List.{List, [], ◌∷◌}
-use Prim.Native.Nat.{ℕ, zero, suc, ◌+◌, ◌-◌, ◌≤◌, ◌<◌, min}
+use Prim.Native.Nat.{ℕ, zero, suc, ◌+◌, ◌-◌, ◌≤◌, ◌<◌}
 use native.Mathlib.Nat.{zero-add, add-zero, suc-add, sub_self, add_assoc}
 use native.Mathlib.Omega.{arith}
 use lib.Dec.{eqb}
@@ -17,7 +16,7 @@ use Rattle.lighting_levels.specs.Paper.Choice.{when◌then◌else◌, Every}
 use Rattle.lighting_outputs.proofs.Time.Light.{counted}
 use Rattle.lighting_outputs.proofs.Rules.Facts.{Judged}
 use Rattle.lighting_outputs.proofs.Time.Judged.{judged_stays, with_burning_judged, fire_judged}
-use Rattle.lighting_levels.proofs.Split.{by_eq, by_lt, by_bool, eqb_miss, eqb_hit, eq_of}
+use Rattle.lighting_levels.proofs.Split.{by_eq, by_lt, by_bool, eqb_miss, eq_of}
 use Rattle.lighting_outputs.specs.declared.Phase.{Phase}
 use Rattle.lighting_outputs.specs.declared.Phase.TheVariants.{Blink, Delay}
 use Rattle.lighting_outputs.specs.declared.Warning.{Warning}

@@ -1,7 +1,7 @@
 -- Where nothing falls due on the way, the engine's way is burning alone: of any record at all.
 use mathlib.Core.Path.{◌≡◌, refl, sym, ap, ◌∙◌}
 use mathlib.Core.Bool.{Bool, true, false}
-use Prim.Native.Nat.{ℕ, zero, suc, ◌+◌, ◌-◌, ◌≤◌, ◌<◌, min}
+use Prim.Native.Nat.{ℕ, zero, suc, ◌+◌, ◌-◌, ◌≤◌, min}
 use native.Mathlib.Nat.{sub_self}
 use native.Mathlib.Omega.{arith}
 use Rattle.lighting_outputs.specs.Engine.Advance.{greatest_count, burned_by, with_burned_saturating, event_step, event_steps, advance, later}

@@ -3,7 +3,7 @@
 use Rattle.std.specs.Prelude.{Bool, List, [], ◌∷◌, ℕ, ◌+◌, ◌-◌, ◌/◌, ◌%◌, min, ltb, leb, eqb, Float, Option, Some, None, Ok, Err}
 use Rattle.lighting_levels.specs.Paper.Choice.{when◌then◌else◌}
 use Rattle.lighting_outputs.specs.Paper.Parameters.{Parameters}
-use Rattle.lighting_outputs.specs.Paper.Answers.{level_refusal, refusal_number}
+use Rattle.lighting_outputs.specs.Paper.Answers.{refusal_number}
 use Rattle.lighting_levels.specs.Paper.Level.{real, bits, read_out, level_of, limit_of}
 use Rattle.lighting_outputs.specs.Paper.Slots.{Slots, slot}
 use Rattle.lighting_outputs.specs.Paper.Value.{present_value, progress_value, in_process}

@@ -10,10 +10,10 @@ use Rattle.lighting_panel.specs.Paper.Demand.{plain_after, plain_answers, Again,
 use Rattle.lighting_outputs.specs.declared.Answer.{Answer}
 
 -- `Calls e l a e'`: a call of `frame` for each string of l took the panel from e to e' and answered a
-pub data Ok (Calls :) Panel → List Bytes → List Answer → Panel → Type 0 where
-  none : {e : Panel} → Ok (Calls e) [] [] e
+pub data Calls : Panel → List Bytes → List Answer → Panel → Type 0 where
+  none : {e : Panel} → Calls e [] [] e
   call : {e e₁ e₂ : Panel} {b : Bytes} {l : List Bytes} {a : Answer} {given : List Answer}
-      → panel_result e₁ a ≡ frame_step e b → Ok (Calls e₁) l given e₂ → Ok (Calls e) (b ∷ l) (a ∷ given) e₂
+      → panel_result e₁ a ≡ frame_step e b → Calls e₁ l given e₂ → Calls e (b ∷ l) (a ∷ given) e₂
 
 -- what such a caller may conclude who started with the set p and the marks: the outputs, all of every record,
 -- are the plain panel's, at the same time, and every answer was its answer; set and marks are kept, the

@@ -7,7 +7,7 @@ use Rattle.lighting_outputs.specs.Paper.Parameters.{four_hours}
 use Rattle.lighting_outputs.specs.Paper.Fresh.{fresh_output}
 use Rattle.lighting_frames.specs.Paper.Frames.{Bytes}
 use Rattle.lighting_frames.specs.Paper.Stations.{fresh_station}
-use Rattle.lighting_frames.specs.Paper.WorkedTags.{body, half}
+use Rattle.lighting_frames.specs.Paper.WorkedTags.{body}
 use Rattle.lighting_panel.specs.Paper.Panel.{Panel, fresh_panel}
 use Rattle.lighting_panel.specs.Paper.Demand.{answers}
 use Rattle.lighting_panel.specs.Paper.OldPanel.{OldPanel, old_start, old_answers}
