@@ -3,30 +3,30 @@
 
 ghost use Rattle.std.specs.Prelude.{◌≡◌, ◌<◌, ◌^◌, ◌+◌};
 ghost use Rattle.lighting_outputs.specs.Paper.Commands.{timed};
-ghost use Rattle.lighting_outputs.specs.declared.Timer.TheVariants.{Running};
+ghost use Rattle.lighting_outputs.specs.Paper.Passing.{running};
 
 use lighting_outputs::{Duration, Timer};
 
 // 'slot p empties d ms later': milliseconds, as they were sent.
-fn running(t: u64, p: u8, d: u32) -> Timer
+fn running(t: u64, p: u8, d: u32) -> Option<Timer>
     requires { t < 2 ^ 48 }
-    ensures { result ≡ Running p (t + d) }
+    ensures { result ≡ running p (t + d) }
 {
-    Timer::Running {
+    Some(Timer {
         slot: p,
         due: t + d as u64,
-    }
+    })
 }
 
 // 'a new one replaces it, 0 cancels it, Absent leaves it running'.
 #[tactic(auto, using(lighting_levels::proofs::Choosing::ifs, lighting_outputs::proofs::Laws::timed_on), unfolding(lighting_outputs::specs::Paper::Commands::timed))]
-pub fn time(t: u64, p: u8, m: Timer, d: Duration) -> Timer
+pub fn time(t: u64, p: u8, m: Option<Timer>, d: Duration) -> Option<Timer>
     requires { t < 2 ^ 48 }
     ensures { result ≡ timed t p m d }
 {
     match d {
         Duration::Lasts(l) => running(t, p, l),
-        Duration::Cancels => Timer::Off,
+        Duration::Cancels => None,
         Duration::Omitted => m,
     }
 }

@@ -4,7 +4,7 @@
 ghost use Rattle.std.specs.Prelude.{◌≡◌};
 ghost use Rattle.lighting_outputs.specs.Paper.Operations.{operation_number, no_fields, level_alone, step_alone, fields_of};
 
-use lighting_outputs::{Operation, OperationFields, RealField, TimeField};
+use lighting_outputs::{Operation, OperationFields};
 
 // The operation's kind, less 10.
 #[tactic(auto, unfolding(lighting_outputs::specs::Paper::Operations::operation_number))]
@@ -30,10 +30,10 @@ fn no_fields() -> OperationFields
     ensures { result ≡ no_fields }
 {
     OperationFields {
-        level: RealField::NoReal,
-        rate: RealField::NoReal,
-        step: RealField::NoReal,
-        fade: TimeField::NoTime,
+        level: None,
+        rate: None,
+        step: None,
+        fade: None,
     }
 }
 
@@ -41,7 +41,7 @@ fn level_alone(x: f32) -> OperationFields
     ensures { result ≡ level_alone x }
 {
     OperationFields {
-        level: RealField::Real(x),
+        level: Some(x),
         ..no_fields()
     }
 }
@@ -50,7 +50,7 @@ fn step_alone(x: f32) -> OperationFields
     ensures { result ≡ step_alone x }
 {
     OperationFields {
-        step: RealField::Real(x),
+        step: Some(x),
         ..no_fields()
     }
 }
@@ -67,11 +67,11 @@ pub fn fields_of(k: Operation) -> OperationFields
         Operation::FadeTo(x) | Operation::RampTo(x) | Operation::Goto(x) => level_alone(x),
         Operation::StepUpBy(x) | Operation::StepDownBy(x) => step_alone(x),
         Operation::FadeToOver(x, l) => OperationFields {
-            fade: TimeField::Time(l),
+            fade: Some(l),
             ..level_alone(x)
         },
         Operation::RampToAtRate(x, rate) => OperationFields {
-            rate: RealField::Real(rate),
+            rate: Some(rate),
             ..level_alone(x)
         },
     }

@@ -6,7 +6,7 @@ ghost use Rattle.std.specs.Prelude.{◌≡◌};
 ghost use Rattle.lighting_frames.specs.Paper.Frames.{call_of, called, clock_of, parse_by, parse};
 
 use lighting_frames::{Action, Call, Frame, Kind};
-use lighting_outputs::Parameters;
+use lighting_outputs::{Parameters, Refusal};
 
 #[tactic(auto, unfolding(lighting_frames::specs::Paper::Frames::call_of))]
 fn call_of(parameters: Parameters, action: Action, b: &[u8]) -> Call
@@ -23,44 +23,44 @@ fn call_of(parameters: Parameters, action: Action, b: &[u8]) -> Call
 
 // A station that the set has not, or number 0, is refusal 4; an output that is not in the table of c is 5.
 #[tactic(auto, using(lighting_levels::proofs::Choosing::ifs), unfolding(lighting_frames::specs::Paper::Frames::called))]
-fn called(parameters: Parameters, c: usize, call: Call) -> Frame
+fn called(parameters: Parameters, c: usize, call: Call) -> Result<Frame, Refusal>
     ensures { result ≡ called parameters c call }
 {
     if parameters.stations <= u32::from(call.station) || call.number == 0 {
-        Frame::Bad(4)
+        Err(Refusal::UnknownStation)
     } else if usize::from(call.output) < c {
-        Frame::Calls(call)
+        Ok(Frame::Calls(call))
     } else {
-        Frame::Bad(5)
+        Err(Refusal::UnknownOutput)
     }
 }
 
 #[tactic(auto, unfolding(lighting_frames::specs::Paper::Frames::clock_of))]
-fn clock_of(b: &[u8]) -> Frame
+fn clock_of(b: &[u8]) -> Result<Frame, Refusal>
     ensures { result ≡ clock_of b.now }
 {
-    Frame::Clock(frame_field::word48_at(b, 1))
+    Ok(Frame::Clock(frame_field::word48_at(b, 1)))
 }
 
 // No byte, or an unknown kind, is refusal 2, and another length than l, which the kind fixes, is 3.
 #[tactic(auto, using(lighting_frames::proofs::Laws::parse_by_on, lighting_levels::proofs::Choosing::ifs), unfolding(lighting_frames::specs::Paper::Frames::parse_by))]
-fn parse_by(parameters: Parameters, c: usize, l: u32, kind: Kind, b: &[u8]) -> Frame
+fn parse_by(parameters: Parameters, c: usize, l: u32, kind: Kind, b: &[u8]) -> Result<Frame, Refusal>
     ensures { result ≡ parse_by parameters c l kind b.now }
 {
     match kind {
-        Kind::NoKind => Frame::Bad(2),
+        Kind::NoKind => Err(Refusal::UnknownKind),
         Kind::ClockKind if b.len() == l as usize => clock_of(b),
         Kind::CallKind(action) if b.len() == l as usize => called(
             parameters,
             c,
             call_of(parameters, action, b),
         ),
-        Kind::ClockKind | Kind::CallKind(_) => Frame::Bad(3),
+        Kind::ClockKind | Kind::CallKind(_) => Err(Refusal::WrongLength),
     }
 }
 
 #[tactic(auto, unfolding(lighting_frames::specs::Paper::Frames::parse))]
-pub fn parse(parameters: Parameters, c: usize, b: &[u8]) -> Frame
+pub fn parse(parameters: Parameters, c: usize, b: &[u8]) -> Result<Frame, Refusal>
     ensures { result ≡ parse parameters c b.now }
 {
     let row = frame_kinds::kind_row(frame_field::byte_at(b, 0));

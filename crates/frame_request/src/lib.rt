@@ -12,20 +12,19 @@ ghost use Rattle.lighting_frames.specs.Paper.Frames.{request_of};
 use command_parse::{command_request, tagged_request};
 use frame_field::{byte_at, from_on, word32_at};
 use lighting_frames::Action;
-use lighting_levels::Level;
-use lighting_outputs::{Operation, OutputRequest, Parameters, Request};
+use lighting_outputs::{Operation, OutputRequest, Parameters, Refusal, Request};
 use property_write::property_of;
 use property_write::values::slot_of;
 
 // ---- kinds 02 to 05
 
 #[tactic(auto, unfolding(lighting_outputs::specs::Paper::Requests::write_level))]
-fn write_level(i: u8, v: Level) -> Request
+fn write_level(i: u8, v: Option<u32>) -> Request
     ensures { result ≡ write_level i v }
 {
     match v {
-        Level::Units(level) => Request::ToOutput(OutputRequest::Write { slot: i, level }),
-        Level::OutOfRange => Request::Refuse(11),
+        Some(level) => Ok(OutputRequest::Write { slot: i, level }),
+        None => Err(Refusal::RealOutOfRange),
     }
 }
 
@@ -36,7 +35,7 @@ fn write_of(n: u8, x: u32) -> Request
     if number_ranges::is_priority(u32::from(n)) {
         write_level(slot_of(u32::from(n)), number_level::level_of(x))
     } else {
-        Request::Refuse(10)
+        Err(Refusal::BadPriority)
     }
 }
 
@@ -45,11 +44,11 @@ fn empty_of(p: u8) -> Request
     ensures { result ≡ empty_of p }
 {
     if number_ranges::is_priority(u32::from(p)) {
-        Request::ToOutput(OutputRequest::Empty {
+        Ok(OutputRequest::Empty {
             slot: slot_of(u32::from(p)),
         })
     } else {
-        Request::Refuse(10)
+        Err(Refusal::BadPriority)
     }
 }
 
@@ -75,7 +74,7 @@ pub fn request_of(parameters: Parameters, action: Action, b: &[u8]) -> Request
         Action::WritesLevel => write_of(byte_at(b, 13), word32_at(b, 14)),
         Action::EmptiesSlot => empty_of(byte_at(b, 13)),
         Action::WritesProperty => change_of(parameters, byte_at(b, 13), word32_at(b, 14)),
-        Action::ReadsProperty => Request::ToOutput(OutputRequest::Read(property_of(byte_at(
+        Action::ReadsProperty => Ok(OutputRequest::Read(property_of(byte_at(
             b, 13,
         )))),
         Action::Stops => command_request(parameters, Operation::Stop, word32_at(b, 13)),

@@ -113,13 +113,13 @@ fn warning_of(n: &[u64; NUMBERS]) -> Warning {
     }
 }
 
-fn timer_of(n: &[u64; NUMBERS]) -> Timer {
+fn timer_of(n: &[u64; NUMBERS]) -> Option<Timer> {
     match n[36] {
-        0 => Timer::Off,
-        _ => Timer::Running {
+        0 => None,
+        _ => Some(Timer {
             slot: n[37].narrow(),
             due: n[38],
-        },
+        }),
     }
 }
 
@@ -215,8 +215,8 @@ fn put_warning(n: &mut [u64; NUMBERS], warning: Warning) {
     n[33] = warning.over;
 }
 
-fn put_timer(n: &mut [u64; NUMBERS], timer: Timer) {
-    if let Timer::Running { slot, due } = timer {
+fn put_timer(n: &mut [u64; NUMBERS], timer: Option<Timer>) {
+    if let Some(Timer { slot, due }) = timer {
         n[36] = 1;
         n[37] = u64::from(slot);
         n[38] = due;

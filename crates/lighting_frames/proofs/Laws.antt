@@ -13,7 +13,7 @@ use Rattle.lighting_frames.specs.declared.TagFields.{TagFields}
 use Rattle.lighting_frames.specs.declared.TaggedCommand.{TaggedCommand}
 use Rattle.lighting_outputs.specs.Paper.Answers.{Request}
 use Rattle.lighting_outputs.specs.declared.Parameters.{Parameters}
-use Rattle.lighting_outputs.specs.declared.Refusal.{Refusal}
+use Rattle.lighting_outputs.specs.declared.refusals.Refusal.{Refusal}
 use Rattle.std.specs.Prelude.{Float, Option, Result}
 use mathlib.Core.Bool.{Bool}
 use mathlib.Core.List.{List}

@@ -33,7 +33,7 @@ use Rattle.lighting_outputs.specs.declared.OutputRequest.TheVariants.{Commands}
 use Rattle.lighting_levels.proofs.Split.{by_bool}
 use Rattle.lighting_frames.proofs.KindTable.{action_byte, kind_byte}
 use Rattle.lighting_outputs.proofs.Rules.CommandRanges.{command_taken}
-use Rattle.lighting_outputs.specs.declared.Refusal.TheVariants.{WrongLength}
+use Rattle.lighting_outputs.specs.declared.refusals.Refusal.TheVariants.{WrongLength}
 
 -- THE NUMBER. The operation of a command that was taken is the one that its kind says
 command_request_operation : (p : Parameters) (o : Operation) (d : ℕ) (k : Command) → command_request p o d ≡ Ok (Commands k) → k.operation ≡ o

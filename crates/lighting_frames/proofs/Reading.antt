@@ -30,7 +30,7 @@ use Rattle.lighting_outputs.proofs.Rules.RequestInRange.{RequestInRange}
 use Rattle.lighting_outputs.proofs.Rules.Rows.{priority_of, change_good}
 use Rattle.lighting_outputs.proofs.Rules.CommandRanges.{command_request_good}
 use Rattle.lighting_frames.proofs.Tagging.Refused.{tagged_good}
-use Rattle.lighting_outputs.specs.declared.Refusal.{Refusal}
+use Rattle.lighting_outputs.specs.declared.refusals.Refusal.{Refusal}
 use Rattle.lighting_outputs.specs.Paper.Answers.{refusal_number}
 
 -- KINDS 02 TO 05

@@ -30,8 +30,8 @@ use Rattle.lighting_frames.proofs.KindTable.{action_byte}
 use Rattle.lighting_frames.proofs.Tagging.Bodies.{well_tagged_lem}
 use Rattle.lighting_frames.proofs.Tagging.Commands.{whole_read}
 use Rattle.lighting_frames.proofs.Tagging.Only.{operation_of_lem, at_most, time_same}
-use Rattle.lighting_outputs.specs.declared.Refusal.{Refusal}
-use Rattle.lighting_outputs.specs.declared.Refusal.TheVariants.{BadTags, BadFields}
+use Rattle.lighting_outputs.specs.declared.refusals.Refusal.{Refusal}
+use Rattle.lighting_outputs.specs.declared.refusals.Refusal.TheVariants.{BadTags, BadFields}
 
 pub data SetRead (action : Action) (b : Bytes) : Type 0 where
   none : {request : Request} → ((p : Parameters) → request_of p action b ≡ request)

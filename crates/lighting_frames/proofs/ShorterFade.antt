@@ -27,7 +27,7 @@ use Rattle.lighting_levels.proofs.Split.{by_bool}
 use Rattle.lighting_outputs.proofs.ShorterFade.{with_fade, Shortened, alike, refused, change, command}
 use Rattle.lighting_frames.proofs.KindTable.{kind_byte, clock_byte}
 use Rattle.lighting_frames.proofs.SetRead.{SetRead, none, refuses, writes, commands, set_read}
-use Rattle.lighting_outputs.specs.declared.Refusal.{Refusal}
+use Rattle.lighting_outputs.specs.declared.refusals.Refusal.{Refusal}
 use Rattle.lighting_frames.specs.Paper.Tags.{reads}
 
 -- a clock carries none

@@ -30,8 +30,8 @@ use Rattle.lighting_outputs.specs.Paper.Answers.{Request}
 use Rattle.lighting_outputs.specs.declared.Settings.{Settings}
 use Rattle.lighting_levels.proofs.Split.{by_bool, by_le, also_both, also_yes, leb_yes, leb_no, le_of}
 use Rattle.lighting_outputs.proofs.Rules.Rows.{same_is, row_reads}
-use Rattle.lighting_outputs.specs.declared.Refusal.TheVariants.{WholeOutOfRange}
-use Rattle.lighting_outputs.specs.declared.Refusal.{Refusal}
+use Rattle.lighting_outputs.specs.declared.refusals.Refusal.TheVariants.{WholeOutOfRange}
+use Rattle.lighting_outputs.specs.declared.refusals.Refusal.{Refusal}
 
 -- the set with another longest fade
 abbrev pub with_fade : Parameters → ℕ → Parameters

@@ -3,6 +3,10 @@
 // 1, and slot 6 of the paper is 5. Times are in milliseconds.
 #![tactic(auto)]
 
+mod refusals;
+
+pub use refusals::Refusal;
+
 // ---- numbers by name; the definitions have the same (specs/Paper/Slots.antt, specs/Paper/Level.antt)
 
 // Sixteen slots: how many there are, and the first number that is no slot. Slot 6, which is a warning's, and
@@ -175,46 +179,6 @@ pub enum Answer {
     Value(u32),
     Absent,
     Refused(u8),
-}
-
-// Why a start or a frame is refused. `refusal_number` of specs/Paper/Answers.antt has the papers' number of
-// each, which is what an answer carries.
-#[derive(Clone, Copy)]
-pub enum Refusal {
-    // 1: the lent records are not as many as the set has, or break a rule
-    BrokenRecords,
-    // 2: no byte, or an unknown kind
-    UnknownKind,
-    // 3: another length than the kind's
-    WrongLength,
-    // 4: a station that the set has not, or number 0
-    UnknownStation,
-    // 5: an output that is not in the table
-    UnknownOutput,
-    // 6: the station's last number with other bytes
-    OtherBytes,
-    // 7: a number below the station's last
-    PastNumber,
-    // 8: a time before panel time
-    PastTime,
-    // 9: a property that is unknown, or not writable
-    NotWritable,
-    // 10: priority 0, 6 or over 16
-    BadPriority,
-    // 11: a REAL out of range
-    RealOutOfRange,
-    // 12: a whole number out of range
-    WholeOutOfRange,
-    // 13: Min over Max
-    MinOverMax,
-    // 14: a length, tag, tag order, tag length or padding that is wrong, or an operation above 10
-    BadTags,
-    // 15: a field in tags that is missing, foreign, or not in the fewest octets
-    BadFields,
-    // 16: the relay's inactive value not below its active one
-    RelayNotInOrder,
-    // 17: a start with a parameter out of range
-    BadParameters,
 }
 
 // The ends of the ranges of a set of parameters (§6): stations and outputs from 1, the two times from

@@ -32,7 +32,7 @@ use Rattle.lighting_outputs.proofs.Rules.Startable.{Startable, startable_of}
 use Rattle.lighting_frames.proofs.Reading.{FrameInRange, frame_in_range}
 use Rattle.lighting_frames.proofs.KindTable.{length_most}
 use Rattle.lighting_outputs.proofs.Rules.Tied.{tested_stays}
-use Rattle.lighting_outputs.specs.declared.Refusal.{Refusal}
+use Rattle.lighting_outputs.specs.declared.refusals.Refusal.{Refusal}
 
 -- THE START
 module _ (p : Parameters) (marks : ℕ) (e : Panel) where

@@ -5,7 +5,7 @@ use Rattle.lighting_frames.specs.Paper.Frames.{Bytes}
 use Rattle.lighting_frames.specs.declared.Frame.{Frame}
 use Rattle.lighting_frames.specs.declared.Station.{Station}
 use Rattle.lighting_frames.specs.declared.Verdict.{Verdict}
-use Rattle.lighting_outputs.specs.declared.Refusal.{Refusal}
+use Rattle.lighting_outputs.specs.declared.refusals.Refusal.{Refusal}
 use Rattle.lighting_panel.specs.Engine.Executing.{execute}
 use Rattle.lighting_panel.specs.Engine.Judging.{judged_by_record, station_of}
 use Rattle.lighting_panel.specs.Paper.Panel.{Panel, Step}

@@ -41,8 +41,8 @@ use Rattle.lighting_panel.proofs.Lengths.{padded_kind, restored_padded}
 use Rattle.lighting_outputs.specs.declared.Answer.TheVariants.{Done}
 use Rattle.lighting_outputs.proofs.Acts.Answered.{NotOne, not_one}
 use Rattle.lighting_panel.proofs.Table.{served_not_one, AllSound, all_tested, all_fresh, run_plain_advance, all_advance, served_sound, served_length}
-use Rattle.lighting_outputs.specs.declared.Refusal.{Refusal}
-use Rattle.lighting_outputs.specs.declared.Refusal.TheVariants.{PastNumber, PastTime}
+use Rattle.lighting_outputs.specs.declared.refusals.Refusal.{Refusal}
+use Rattle.lighting_outputs.specs.declared.refusals.Refusal.TheVariants.{PastNumber, PastTime}
 use Rattle.lighting_outputs.specs.Paper.Answers.{refusal_number}
 
 -- THE LINK between the station records and the list so far. The engine's panel is rebuilt from the plain one

@@ -22,9 +22,9 @@ use Rattle.lighting_frames.specs.declared.Kind.TheVariants.{NoKind, ClockKind, C
 use Rattle.lighting_frames.specs.declared.Frame.{Frame}
 use Rattle.lighting_levels.proofs.Split.{eqb_miss}
 use Rattle.lighting_frames.proofs.KindTable.{length_most}
-use Rattle.lighting_outputs.specs.declared.Refusal.{Refusal}
+use Rattle.lighting_outputs.specs.declared.refusals.Refusal.{Refusal}
 use Rattle.lighting_outputs.specs.Paper.Answers.{refusal_number}
-use Rattle.lighting_outputs.specs.declared.Refusal.TheVariants.{BrokenRecords, UnknownKind, WrongLength}
+use Rattle.lighting_outputs.specs.declared.refusals.Refusal.TheVariants.{BrokenRecords, UnknownKind, WrongLength}
 
 -- what refuses a string that is longer than any frame
 abbrev too_long : Kind → Refusal

@@ -50,8 +50,8 @@ use Rattle.lighting_panel.proofs.Lists.{joined, Refines, linked_sound, decide_ju
 use Rattle.lighting_panel.proofs.Demand.{never_done}
 use Rattle.lighting_panel.proofs.Consequences.Others.{every_at}
 use Rattle.lighting_panel.proofs.OldPanel.{today, sound_then, Cut, Compared, turned_down, copied_both, short, refused_both, cut_off, compared, frame_by}
-use Rattle.lighting_outputs.specs.declared.Refusal.{Refusal}
-use Rattle.lighting_outputs.specs.declared.Refusal.TheVariants.{WholeOutOfRange}
+use Rattle.lighting_outputs.specs.declared.refusals.Refusal.{Refusal}
+use Rattle.lighting_outputs.specs.declared.refusals.Refusal.TheVariants.{WholeOutOfRange}
 use Rattle.lighting_outputs.specs.Paper.Answers.{refusal_number}
 
 -- WHAT IS TAKEN IS ANSWERED DONE: a command, and a write of Fade_Time, to a record that keeps the rules

@@ -46,8 +46,8 @@ use Rattle.lighting_outputs.proofs.Consequences.Numbers.{fresh}
 use Rattle.lighting_panel.proofs.Demand.{never_done}
 use Rattle.lighting_panel.proofs.Carried.{start_step_refused, start_step_done}
 use Rattle.lighting_panel.proofs.Table.{served_length}
-use Rattle.lighting_outputs.specs.declared.Refusal.{Refusal}
-use Rattle.lighting_outputs.specs.declared.Refusal.TheVariants.{WholeOutOfRange}
+use Rattle.lighting_outputs.specs.declared.refusals.Refusal.{Refusal}
+use Rattle.lighting_outputs.specs.declared.refusals.Refusal.TheVariants.{WholeOutOfRange}
 
 -- THE SET: the old panel's, with as many outputs as the table has
 abbrev pub set_of : OldPanel → Parameters

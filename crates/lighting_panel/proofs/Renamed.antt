@@ -18,7 +18,7 @@ use Rattle.lighting_frames.specs.declared.Frame.TheVariants.{Clock, Calls}
 use Rattle.lighting_frames.specs.declared.Verdict.{Verdict}
 use Rattle.lighting_frames.specs.declared.Verdict.TheVariants.{Copied, Clocked, Arrives}
 use Rattle.lighting_levels.proofs.Split.{by_bool}
-use Rattle.lighting_outputs.specs.declared.Refusal.{Refusal}
+use Rattle.lighting_outputs.specs.declared.refusals.Refusal.{Refusal}
 
 -- a way to rename frames of some sort: they are read alike, and no two become one
 pub record Renaming (p : Parameters) (s : Bytes → Bytes) (Sort : Bytes → Type 0) : Type 0 where

@@ -27,7 +27,7 @@ use Rattle.lighting_panel.proofs.Among.{every_among}
 use Rattle.lighting_frames.proofs.Reading.{FrameInRange, frame_in_range}
 use Rattle.lighting_panel.proofs.Table.{run_plain_advance, advance_here}
 use Rattle.lighting_panel.proofs.Lists.{joined, Refines, Moved, judged_moved, decide_judged, linked_sound, step}
-use Rattle.lighting_outputs.specs.declared.Refusal.{Refusal}
+use Rattle.lighting_outputs.specs.declared.refusals.Refusal.{Refusal}
 
 -- a frame that can no longer move the panel: its number is not above its station's latest, or its time is
 -- past

@@ -43,8 +43,8 @@ use Rattle.lighting_frames.proofs.Reading.{six_bytes}
 use Rattle.lighting_frames.proofs.Tagging.InTags.{same_self}
 use Rattle.lighting_panel.proofs.Carried.{frame_step_execute, sound_outputs}
 use Rattle.lighting_panel.proofs.Consequences.Others.{at_map, every_at}
-use Rattle.lighting_outputs.specs.declared.Refusal.{Refusal}
-use Rattle.lighting_outputs.specs.declared.Refusal.TheVariants.{WrongLength, UnknownStation, UnknownOutput}
+use Rattle.lighting_outputs.specs.declared.refusals.Refusal.{Refusal}
+use Rattle.lighting_outputs.specs.declared.refusals.Refusal.TheVariants.{WrongLength, UnknownStation, UnknownOutput}
 
 -- A STRING OF KIND 05, read: of the set it asks the numbers of stations and of outputs
 reading : Bytes → Call

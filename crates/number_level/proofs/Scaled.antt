@@ -1,4 +1,5 @@
 -- A REAL from 0.125 to 100 times 2 ^ 26 is a whole number, which `as u64` gives, and 1,024 of it are a unit.
+use Rattle.std.specs.Prelude.{Some}
 use mathlib.Core.Path.{◌≡◌, sym, ap, ◌∙◌}
 use mathlib.Core.Bool.{Bool, true, false, not, ◌&&◌}
 use Prim.Native.Nat.{ℕ, zero, suc, ◌-◌, ◌*◌, ◌%◌, ◌^◌, ◌≤◌, ◌<◌}
@@ -15,7 +16,6 @@ use lib.Ieee.Scale.{round_same}
 use lib.Ieee.Positive.{positive, le→cross, between}
 use borrow.Author.Tests.{le-leb}
 use Rattle.lighting_levels.specs.Paper.Choice.{when◌then◌else◌}
-use Rattle.lighting_levels.specs.declared.Level.TheVariants.{Units}
 use Rattle.lighting_levels.specs.Paper.Level.{nearest_to, amount_of}
 use Rattle.lighting_levels.proofs.Rounding.{nearest_same, nearest_mono}
 
@@ -65,7 +65,7 @@ pub record Scaled (x : Float) : Type 0 where
   pub is : mul binary64 x scale ≡ of_int binary64 (pos n)
   pub small : n ≤ 6710886400
   pub wide : T (fits binary64 x && not (is_nan x))
-  pub amount : amount_of x ≡ Units (nearest_to n 1024)
+  pub amount : amount_of x ≡ Some (nearest_to n 1024)
 
 pub scaled : (x : Float) → T (fits binary32 x) → T (le eighth x) → T (le x hundred) → Scaled x
 unfolding amount_of is_nan when◌then◌else◌
@@ -88,7 +88,7 @@ scaled x f h k = go x f h k (between eighth x hundred tt tt h k)
           wide = and_i (fits binary64 (fin false m e)) true (fits_widens (fin false m e) f) tt;
           amount =
               rw (le-leb (1 * down e) (m * up e * 8) lo, le-leb (m * up e) (100 * down e) (omega arith))
-              (ap Units (nearest_same (m * up e * 65536) (down e) w.0 1024 D (lit< tt) (omega arith)));
+              (ap Some (nearest_same (m * up e * 65536) (down e) w.0 1024 D (lit< tt) (omega arith)));
         }
 
 -- its units fit a u32: they are at most those of 100

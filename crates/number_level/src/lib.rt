@@ -7,7 +7,7 @@ ghost use Rattle.std.specs.Float.{binary32};
 ghost use Rattle.std.specs.Float.Ieee.{nan_bits};
 ghost use Rattle.lighting_levels.specs.Paper.Level.{greatest_level, least_amount, real, bits, nearest_to, amount_of, limit_of, level_of, in_range, units_or, amount_units, level_units, real_of, read_out};
 
-use lighting_levels::{GREATEST_LEVEL, LEAST_LEVEL, Level};
+use lighting_levels::{GREATEST_LEVEL, LEAST_LEVEL};
 
 // The least rate and the least step, 0.125 percent, in units.
 const LEAST_AMOUNT: u32 = LEAST_LEVEL / 8;
@@ -54,55 +54,55 @@ fn rounded(n: u64) -> u64
 }
 
 // A rate or a step: from 0.125 to 100.
-pub fn amount_of_real(x: f32) -> Level
+pub fn amount_of_real(x: f32) -> Option<u32>
     ensures { result ≡ amount_of x }
 {
     if x >= 0.125 && x <= 100.0 {
         // x * 2^26 is a whole number, since a REAL has 24 digits, and 1,024 of it are a unit.
         let n = (f64::from(x) * 67_108_864.0) as u64;
-        Level::Units(rounded(n) as u32)
+        Some(rounded(n) as u32)
     } else {
-        Level::OutOfRange
+        None
     }
 }
 
 // A Min or a Max: from 1 to 100.
-fn limit_of_real(x: f32) -> Level
+fn limit_of_real(x: f32) -> Option<u32>
     ensures { result ≡ limit_of x }
 {
     if x < 1.0 {
-        Level::OutOfRange
+        None
     } else {
         amount_of_real(x)
     }
 }
 
 // A level: 0 and minus zero are 0; above 0 and below 1 it is 65,536; from 1 to 100 the nearest unit.
-pub fn level_of_real(x: f32) -> Level
+pub fn level_of_real(x: f32) -> Option<u32>
     ensures { result ≡ level_of x }
 {
     if x == 0.0 {
-        Level::Units(0)
+        Some(0)
     } else if x > 0.0 && x < 1.0 {
-        Level::Units(LEAST_LEVEL)
+        Some(LEAST_LEVEL)
     } else {
         limit_of_real(x)
     }
 }
 
-pub fn amount_of(pattern: u32) -> Level
+pub fn amount_of(pattern: u32) -> Option<u32>
     ensures { result ≡ amount_of (real pattern) }
 {
     amount_of_real(real_from(pattern))
 }
 
-pub fn limit_of(pattern: u32) -> Level
+pub fn limit_of(pattern: u32) -> Option<u32>
     ensures { result ≡ limit_of (real pattern) }
 {
     limit_of_real(real_from(pattern))
 }
 
-pub fn level_of(pattern: u32) -> Level
+pub fn level_of(pattern: u32) -> Option<u32>
     ensures { result ≡ level_of (real pattern) }
 {
     level_of_real(real_from(pattern))
@@ -111,22 +111,22 @@ pub fn level_of(pattern: u32) -> Level
 // ---- in range or not
 
 #[tactic(auto, unfolding(lighting_levels::specs::Paper::Level::in_range))]
-pub fn in_range(level: Level) -> bool
+pub fn in_range(level: Option<u32>) -> bool
     ensures { result ≡ in_range level }
 {
     match level {
-        Level::Units(_) => true,
-        Level::OutOfRange => false,
+        Some(_) => true,
+        None => false,
     }
 }
 
 #[tactic(auto, unfolding(lighting_levels::specs::Paper::Level::units_or))]
-pub fn units_or(otherwise: u32, level: Level) -> u32
+pub fn units_or(otherwise: u32, level: Option<u32>) -> u32
     ensures { result ≡ units_or otherwise level }
 {
     match level {
-        Level::Units(units) => units,
-        Level::OutOfRange => otherwise,
+        Some(units) => units,
+        None => otherwise,
     }
 }
 

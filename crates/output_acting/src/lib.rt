@@ -7,7 +7,7 @@ ghost use Rattle.lighting_outputs.specs.Paper.Properties.{settings_with, relay_w
 ghost use Rattle.lighting_outputs.specs.Paper.Relay.{inactive_not_below};
 ghost use Rattle.lighting_outputs.specs.Paper.Acting.{done, unchanged, changed_unless, acted};
 
-use lighting_outputs::{Answer, Outcome, Output, OutputRequest, Property};
+use lighting_outputs::{Answer, Outcome, Output, OutputRequest, Property, Refusal};
 use property_write::settings;
 
 // The output changed, and judged.
@@ -39,9 +39,9 @@ fn change_unless(m: bool, unordered: bool, o: Output, n: Property, v: u32) -> Ou
     ensures { result ≡ changed_unless m unordered o n v }
 {
     if m {
-        unchanged(o, Answer::Refused(13))
+        unchanged(o, Answer::from(Refusal::MinOverMax))
     } else if unordered {
-        unchanged(o, Answer::Refused(16))
+        unchanged(o, Answer::from(Refusal::RelayNotInOrder))
     } else {
         done(settings::change(o, n, v))
     }

@@ -104,11 +104,11 @@ pub fn activity_by(
 
 // No duration is tied to slot 6, and its moment is after panel time.
 #[tactic(auto, using(lighting_levels::proofs::Choosing::ifs), unfolding(lighting_outputs::specs::Paper::Rules::timer_sound))]
-pub fn timer_sound(t: u64, m: Timer) -> bool
+pub fn timer_sound(t: u64, m: Option<Timer>) -> bool
     ensures { result ≡ timer_sound t m }
 {
     match m {
-        Timer::Off => true,
-        Timer::Running { slot, due } => if is_slot(slot as u32) { t < due } else { false },
+        None => true,
+        Some(Timer { slot, due }) => if is_slot(slot as u32) { t < due } else { false },
     }
 }

@@ -7,17 +7,17 @@ ghost use Rattle.lighting_outputs.specs.Paper.Slots.{slot6, emptied};
 ghost use Rattle.lighting_outputs.specs.Paper.Passing.{timer_due, phase_end, activity_due, is_due, timer_at, emptied_by, expired, end_movement_of, end_movement_by, end_movement_on_expiry, delayed, next_phase, next_activity, activity_at, phase_slots, next_slots, slots_at, after_events, fire};
 ghost use Rattle.lighting_outputs.specs.Engine.Advance.{any_due};
 
-use lighting_outputs::{Activity, Moment, Output, Phase, SLOT_6, Slots, Timer, Warning};
+use lighting_outputs::{Activity, Output, Phase, SLOT_6, Slots, Timer, Warning};
 
 // ---- when
 
 #[tactic(auto, unfolding(lighting_outputs::specs::Paper::Passing::timer_due))]
-pub fn timer_due(m: Timer) -> Moment
+pub fn timer_due(m: Option<Timer>) -> Option<u64>
     ensures { result ≡ timer_due m }
 {
     match m {
-        Timer::Off => Moment::Never,
-        Timer::Running { slot: _, due } => Moment::At(due),
+        None => None,
+        Some(Timer { slot: _, due }) => Some(due),
     }
 }
 
@@ -32,30 +32,30 @@ pub fn phase_end(w: Warning, p: Phase) -> u64
 }
 
 #[tactic(auto, unfolding(lighting_outputs::specs::Paper::Passing::activity_due))]
-pub fn activity_due(a: Activity) -> Moment
+pub fn activity_due(a: Activity) -> Option<u64>
     ensures { result ≡ activity_due a }
 {
     match a {
-        Activity::Still => Moment::Never,
-        Activity::Moving(m) => Moment::At(m.over),
+        Activity::Still => None,
+        Activity::Moving(m) => Some(m.over),
         Activity::Warned(w) => {
             let p = w.phase;
-            Moment::At(phase_end(w, p))
+            Some(phase_end(w, p))
         },
     }
 }
 
 #[tactic(auto, unfolding(lighting_outputs::specs::Paper::Passing::is_due))]
-fn is_due(t: u64, d: Moment) -> bool
+fn is_due(t: u64, d: Option<u64>) -> bool
     ensures { result ≡ is_due t d }
 {
     match d {
-        Moment::Never => false,
-        Moment::At(at) => at == t,
+        None => false,
+        Some(at) => at == t,
     }
 }
 
-fn is_timer_due(t: u64, m: Timer) -> bool
+fn is_timer_due(t: u64, m: Option<Timer>) -> bool
     ensures { result ≡ is_due t (timer_due m) }
 {
     is_due(t, timer_due(m))
@@ -69,7 +69,7 @@ fn is_activity_due(t: u64, a: Activity) -> bool
 
 // Whether anything is due at t of what is under way.
 #[tactic(auto, using(lighting_levels::proofs::Choosing::if_itself, lighting_levels::proofs::Choosing::ifs))]
-pub fn is_any_due(t: u64, m: Timer, a: Activity) -> bool
+pub fn is_any_due(t: u64, m: Option<Timer>, a: Activity) -> bool
     ensures { result ≡ any_due t (timer_due m ∷ activity_due a ∷ []) }
 {
     if is_timer_due(t, m) {
@@ -82,24 +82,24 @@ pub fn is_any_due(t: u64, m: Timer, a: Activity) -> bool
 // ---- a duration
 
 #[tactic(auto, using(lighting_levels::proofs::Choosing::ifs), unfolding(lighting_outputs::specs::Paper::Passing::timer_at))]
-fn timer_at(t: u64, m: Timer) -> Timer
+fn timer_at(t: u64, m: Option<Timer>) -> Option<Timer>
     ensures { result ≡ timer_at t m }
 {
-    if is_timer_due(t, m) { Timer::Off } else { m }
+    if is_timer_due(t, m) { None } else { m }
 }
 
 #[tactic(auto, unfolding(lighting_outputs::specs::Paper::Passing::emptied_by))]
-fn empty_by(m: Timer, s: Slots) -> Slots
+fn empty_by(m: Option<Timer>, s: Slots) -> Slots
     ensures { result ≡ emptied_by m s }
 {
     match m {
-        Timer::Off => s,
-        Timer::Running { slot, due: _ } => output_slots::empty(s, slot),
+        None => s,
+        Some(Timer { slot, due: _ }) => output_slots::empty(s, slot),
     }
 }
 
 #[tactic(auto, using(lighting_levels::proofs::Choosing::ifs), unfolding(lighting_outputs::specs::Paper::Passing::expired))]
-fn expire(t: u64, m: Timer, s: Slots) -> Slots
+fn expire(t: u64, m: Option<Timer>, s: Slots) -> Slots
     ensures { result ≡ expired t m s }
 {
     if is_timer_due(t, m) {
@@ -122,17 +122,17 @@ pub fn end_movement_of(q: u8, a: Activity) -> Activity
 }
 
 #[tactic(auto, unfolding(lighting_outputs::specs::Paper::Passing::end_movement_by))]
-fn end_movement_by(m: Timer, a: Activity) -> Activity
+fn end_movement_by(m: Option<Timer>, a: Activity) -> Activity
     ensures { result ≡ end_movement_by m a }
 {
     match m {
-        Timer::Off => a,
-        Timer::Running { slot, due: _ } => end_movement_of(slot, a),
+        None => a,
+        Some(Timer { slot, due: _ }) => end_movement_of(slot, a),
     }
 }
 
 #[tactic(auto, using(lighting_levels::proofs::Choosing::ifs), unfolding(lighting_outputs::specs::Paper::Passing::end_movement_on_expiry))]
-fn end_movement_on_expiry(t: u64, m: Timer, a: Activity) -> Activity
+fn end_movement_on_expiry(t: u64, m: Option<Timer>, a: Activity) -> Activity
     ensures { result ≡ end_movement_on_expiry t m a }
 {
     if is_timer_due(t, m) {

@@ -10,7 +10,7 @@ use lighting_frames::{LONGEST_FRAME, Station};
 use lighting_levels::{GREATEST_LEVEL, LEAST_LEVEL};
 use lighting_outputs::{
     Activity, Answer, Command, Duration, Operation, Output, Parameters, Relay, SLOT_16, SLOTS,
-    Settings, Slots, Timer,
+    Settings, Slots,
 };
 
 // 1,000 ms, or the longest fade time where that is less.
@@ -75,7 +75,7 @@ fn fresh_with(fade: u32) -> Output
         settings: settings,
         slots: slots,
         activity: Activity::Still,
-        timer: Timer::Off,
+        timer: None,
         burning: 0,
         last: last,
         relay: relay,

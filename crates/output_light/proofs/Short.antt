@@ -2,6 +2,7 @@
 -- `gone_at` goes by `last_short`, a product and its quotient; of the first unit and of a whole way it takes
 -- less. Each law has the form in which code cites it: r is what the function gives, x and k are what it has
 -- from others.
+use Rattle.std.specs.Prelude.{Option}
 use mathlib.Core.Path.{◌≡◌, sym, ap, ◌∙◌}
 use Prim.Native.Nat.{ℕ, zero, suc, ◌-◌, ◌*◌, ◌/◌, ◌≤◌, ◌<◌, min}
 use native.Mathlib.Nat.{one-mul, mul-zero, mul_comm, zero-div, le-div_iff_mul-le, div-lt_iff_lt-mul}
@@ -9,7 +10,6 @@ use native.Mathlib.Omega.{arith}
 use borrow.Author.Tests.{ne_eqb}
 use Rattle.lighting_levels.specs.Paper.Choice.{when◌then◌else◌}
 use Rattle.lighting_outputs.specs.Engine.Light.{last_short, moment_after, gone_at}
-use Rattle.lighting_outputs.specs.declared.Moment.{Moment}
 use Rattle.lighting_outputs.specs.declared.Movement.{Movement}
 use Rattle.lighting_levels.proofs.Split.{by_lt, leb_no}
 
@@ -23,7 +23,7 @@ of_first : (s w : ℕ) → last_short 1 s w ≡ (w - 1) / s
 unfolding last_short
 of_first s w = rw (one-mul w)
 
-pub gone_first : (s w x : ℕ) (m : Movement) (r : Moment) → (s ≡ 0 → ⊥) → x ≡ w - 1 → r ≡ moment_after (x / s) m → r ≡ gone_at 1 s w m
+pub gone_first : (s w x : ℕ) (m : Movement) (r : Option ℕ) → (s ≡ 0 → ⊥) → x ≡ w - 1 → r ≡ moment_after (x / s) m → r ≡ gone_at 1 s w m
 gone_first s w x m r h e q = q ∙ rw e (ap (λ (k : ℕ). moment_after k m) (sym (of_first s w)) ∙ sym (gone_by 1 s w m h))
 
 -- ALL s UNITS that go in w milliseconds: neither product nor division
@@ -47,6 +47,6 @@ at_most_length k m =
     (λ l e. let z : min m.length k ≡ k = omega arith in rw z)
     (λ l e. let z : min m.length k ≡ m.length = omega arith in rw (z, e, leb_no {a = suc m.length} {b = m.length} (omega arith)))
 
-pub gone_short : (u s w k x : ℕ) (m : Movement) (r : Moment) → (s ≡ 0 → ⊥) → k ≡ last_short u s w → x ≡ min m.length k → r ≡ moment_after x m
+pub gone_short : (u s w k x : ℕ) (m : Movement) (r : Option ℕ) → (s ≡ 0 → ⊥) → k ≡ last_short u s w → x ≡ min m.length k → r ≡ moment_after x m
     → r ≡ gone_at u s w m
 gone_short u s w k x m r h e i q = q ∙ rw (i, e) (at_most_length (last_short u s w) m ∙ sym (gone_by u s w m h))

@@ -7,7 +7,7 @@ ghost use Rattle.std.specs.Prelude.{◌≡◌, ◌<◌, ◌-◌, max, eqb};
 ghost use Rattle.lighting_outputs.specs.Paper.Value.{present_value, in_process};
 ghost use Rattle.lighting_outputs.specs.Engine.Light.{last_short, moment_after, gone_at, count_before, count_since, lit_from_zero, lit_from_light, lit_at, lit_moving, lit_in_movement, lit_resting, lit_stretch};
 
-use lighting_outputs::{Activity, Moment, Movement, Output, Pace};
+use lighting_outputs::{Activity, Movement, Output, Pace};
 
 // ---- when so many units of a movement's way are gone. In milliseconds of the movement, which have 32 bits
 // once they are known to be at most its length (§4 of the change requests)
@@ -36,23 +36,23 @@ fn last_short(u: u32, s: u32, w: u32) -> u64
 
 // The moment after the millisecond k of a movement, if it lasts so long.
 #[tactic(auto, using(lighting_levels::proofs::Choosing::ifs), unfolding(lighting_outputs::specs::Engine::Light::moment_after))]
-fn moment_after(k: u32, m: Movement) -> Moment
+fn moment_after(k: u32, m: Movement) -> Option<u64>
     ensures { result ≡ moment_after k m }
 {
     if k < m.length {
-        Moment::At(output_value::since((m.length - (k + 1)) as u64, m.over))
+        Some(output_value::since((m.length - (k + 1)) as u64, m.over))
     } else {
-        Moment::Never
+        None
     }
 }
 
 // The moment from which on the first unit is gone: no product.
 #[tactic(auto, using(crate::proofs::Short::gone_first, lighting_levels::proofs::Choosing::ifs), unfolding(lighting_outputs::specs::Engine::Light::gone_at))]
-fn first_gone_at(s: u32, w: u32, m: Movement) -> Moment
+fn first_gone_at(s: u32, w: u32, m: Movement) -> Option<u64>
     ensures { result ≡ gone_at 1 s w m }
 {
     if s == 0 {
-        Moment::Never
+        None
     } else {
         moment_after(one_less(w) / s, m)
     }
@@ -61,11 +61,11 @@ fn first_gone_at(s: u32, w: u32, m: Movement) -> Moment
 // The moment from which on u units are gone. Whether the movement lasts so long is asked of the whole
 // quotient, before it is narrowed.
 #[tactic(auto, using(crate::proofs::Short::gone_short, lighting_levels::proofs::Choosing::ifs), unfolding(lighting_outputs::specs::Engine::Light::gone_at))]
-fn gone_at(u: u32, s: u32, w: u32, m: Movement) -> Moment
+fn gone_at(u: u32, s: u32, w: u32, m: Movement) -> Option<u64>
     ensures { result ≡ gone_at u s w m }
 {
     if s == 0 {
-        Moment::Never
+        None
     } else {
         moment_after(output_value::at_most(last_short(u, s, w), m.length), m)
     }
@@ -75,22 +75,22 @@ fn gone_at(u: u32, s: u32, w: u32, m: Movement) -> Moment
 
 // Of the n milliseconds from a moment on, those before the moment d, and those from it on.
 #[tactic(auto, unfolding(lighting_outputs::specs::Engine::Light::count_before))]
-fn count_before(from: u64, n: u64, d: Moment) -> u64
+fn count_before(from: u64, n: u64, d: Option<u64>) -> u64
     ensures { result ≡ count_before from n d }
 {
     match d {
-        Moment::Never => n,
-        Moment::At(at) => output_value::least(n, output_value::since(from, at)),
+        None => n,
+        Some(at) => output_value::least(n, output_value::since(from, at)),
     }
 }
 
 #[tactic(auto, unfolding(lighting_outputs::specs::Engine::Light::count_since))]
-fn count_since(from: u64, n: u64, d: Moment) -> u64
+fn count_since(from: u64, n: u64, d: Option<u64>) -> u64
     ensures { result ≡ count_since from n d }
 {
     match d {
-        Moment::Never => 0,
-        Moment::At(at) => output_value::since(output_value::since(from, at), n),
+        None => 0,
+        Some(at) => output_value::since(output_value::since(from, at), n),
     }
 }
 

@@ -8,7 +8,7 @@ ghost use Rattle.lighting_outputs.specs.Engine.Light.{lit_in_movement, lit_resti
 ghost use Rattle.lighting_levels.specs.Paper.Choice.{when◌then◌else◌};
 ghost use Rattle.lighting_outputs.specs.Paper.Value.{present_value};
 
-use lighting_outputs::{Moment, Output};
+use lighting_outputs::Output;
 
 // The sum, or the largest count where it does not fit.
 fn added(a: u64, b: u64) -> u64
@@ -40,12 +40,12 @@ fn with_burned_saturating(from: u64, n: u64, o: Output) -> Output
 // ---- the next due moment, or `to` if nothing falls due before it
 
 #[tactic(auto, unfolding(lighting_outputs::specs::Engine::Advance::sooner))]
-fn sooner(to: u64, d: Moment) -> u64
+fn sooner(to: u64, d: Option<u64>) -> u64
     ensures { result ≡ sooner to d }
 {
     match d {
-        Moment::Never => to,
-        Moment::At(at) => output_value::least(to, at),
+        None => to,
+        Some(at) => output_value::least(to, at),
     }
 }
 

@@ -16,7 +16,7 @@ pub fn with_burning(o: Output, b: u64) -> Output
 }
 
 // A moment's due events.
-pub fn with_due(o: Output, slots: Slots, activity: Activity, timer: Timer) -> Output
+pub fn with_due(o: Output, slots: Slots, activity: Activity, timer: Option<Timer>) -> Output
     ensures { result ≡ with_due o slots activity timer }
 {
     Output {
@@ -48,7 +48,7 @@ pub fn with_effect(o: Output, slots: Slots, activity: Activity) -> Output
 
 // A command.
 #[tactic(auto, unfolding(lighting_outputs::specs::Paper::Record::with_command))]
-pub fn with_command(o: Output, n: Effect, timer: Timer, k: Command) -> Output
+pub fn with_command(o: Output, n: Effect, timer: Option<Timer>, k: Command) -> Output
     ensures { result ≡ with_command o n timer k }
 {
     Output {

@@ -4,13 +4,13 @@
 // answer, are what `start_step` and `frame_step` say.
 #![tactic(auto)]
 
-ghost use Rattle.std.specs.Prelude.{◌≡◌, length};
+ghost use Rattle.std.specs.Prelude.{Ok, ◌≡◌, length};
 ghost use Rattle.lighting_panel.specs.Engine.VerdictPrecondition.{Standing, Arrival, VerdictPrecondition};
 ghost use Rattle.lighting_panel.specs.Paper.Panel.{panel_of, panel_result, start_step};
 ghost use Rattle.lighting_panel.specs.Engine.Executing.{execute, frame_step};
 
 use lighting_frames::{Call, Station, Verdict};
-use lighting_outputs::{Answer, Output, Parameters};
+use lighting_outputs::{Answer, Output, Parameters, Refusal};
 use lighting_panel::PanelRecord;
 
 // A first arrival: the panel goes to its time and acts, and the station keeps number, frame and answer.
@@ -24,7 +24,7 @@ fn arrive(
 ) -> Answer
     requires standing { Standing kept.old.time outputs.old }
     requires arrival { Arrival kept.old.time (length outputs.old) (length stations.old) bytes.now call }
-    ensures { panel_result (panel_of outputs.new stations.new kept.new) result ≡ execute bytes.now (panel_of outputs.old stations.old kept.old) (Verdict.Arrives call) }
+    ensures { panel_result (panel_of outputs.new stations.new kept.new) result ≡ execute bytes.now (panel_of outputs.old stations.old kept.old) (Ok (Verdict.Arrives call)) }
 {
     panel_tables::advance_outputs(outputs, kept.time, call.time);
     let answer = panel_tables::serve(
@@ -46,21 +46,21 @@ fn execute(
     stations: &mut [Station],
     kept: &mut PanelRecord,
     bytes: &[u8],
-    v: Verdict,
+    v: Result<Verdict, Refusal>,
 ) -> Answer
     requires standing { Standing kept.old.time outputs.old }
     requires verdict_precondition { VerdictPrecondition kept.old.time (length outputs.old) (length stations.old) bytes.now v }
     ensures { panel_result (panel_of outputs.new stations.new kept.new) result ≡ execute bytes.now (panel_of outputs.old stations.old kept.old) v }
 {
     match v {
-        Verdict::TurnedDown(r) => Answer::Refused(r),
-        Verdict::Copied(a) => a,
-        Verdict::Clocked(t) => {
+        Err(refusal) => Answer::from(refusal),
+        Ok(Verdict::Copied(a)) => a,
+        Ok(Verdict::Clocked(t)) => {
             panel_tables::advance_outputs(outputs, kept.time, t);
             kept.time = t;
             Answer::Done
         }
-        Verdict::Arrives(call) => arrive(outputs, stations, kept, bytes, call),
+        Ok(Verdict::Arrives(call)) => arrive(outputs, stations, kept, bytes, call),
     }
 }
 
@@ -77,10 +77,10 @@ pub fn start(
     ensures { panel_result (panel_of outputs.new stations.new kept.new) result ≡ start_step parameters tenants (panel_of outputs.old stations.old kept.old) }
 {
     if !panel_record::is_startable(parameters) {
-        return Answer::Refused(17);
+        return Answer::from(Refusal::BadParameters);
     }
     if !station_judging::counts_sound(parameters, outputs.len(), stations.len()) {
-        return Answer::Refused(1);
+        return Answer::from(Refusal::BrokenRecords);
     }
     panel_tables::fresh_outputs(outputs, parameters);
     panel_tables::fresh_stations(stations);
@@ -99,7 +99,7 @@ pub fn frame(
     ensures { panel_result (panel_of outputs.new stations.new kept.new) result ≡ frame_step (panel_of outputs.old stations.old kept.old) bytes.now }
 {
     if !panel_judging::panel_sound(outputs, stations, *kept) {
-        return Answer::Refused(1);
+        return Answer::from(Refusal::BrokenRecords);
     }
     let verdict = panel_judging::decide(outputs, stations, *kept, bytes);
     execute(outputs, stations, kept, bytes, verdict)

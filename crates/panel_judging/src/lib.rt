@@ -11,7 +11,7 @@ ghost use Rattle.lighting_panel.specs.Paper.Panel.{panel_of, panel_sound};
 ghost use Rattle.lighting_panel.specs.Engine.Judging.{decide};
 
 use lighting_frames::{Station, Verdict};
-use lighting_outputs::{Output, Parameters};
+use lighting_outputs::{Output, Parameters, Refusal};
 use lighting_panel::PanelRecord;
 
 // ---- refusal 1
@@ -46,7 +46,7 @@ pub fn panel_sound(outputs: &[Output], stations: &[Station], kept: PanelRecord) 
 
 // What is to be done with the bytes, by the record of the station that they name.
 #[tactic(auto, using(lighting_panel::proofs::Carried::octets, lighting_panel::proofs::Carried::station_found), unfolding(lighting_panel::specs::Engine::Judging::decide))]
-pub fn decide(outputs: &[Output], stations: &[Station], kept: PanelRecord, bytes: &[u8]) -> Verdict
+pub fn decide(outputs: &[Output], stations: &[Station], kept: PanelRecord, bytes: &[u8]) -> Result<Verdict, Refusal>
     requires parameters_value { startable kept.parameters ≡ true }
     requires stations_len { length stations.now ≡ kept.parameters.stations }
     ensures { result ≡ decide (panel_of outputs.now stations.now kept) bytes.now }

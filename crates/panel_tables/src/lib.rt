@@ -3,7 +3,7 @@
 // the work, and the record is put back.
 #![tactic(auto)]
 
-ghost use Rattle.std.specs.Prelude.{map, ◌≡◌, ◌≤◌, ◌<◌, ◌^◌, length, replicate, set, get_or};
+ghost use Rattle.std.specs.Prelude.{Ok, map, ◌≡◌, ◌≤◌, ◌<◌, ◌^◌, length, replicate, set, get_or};
 ghost use Rattle.lighting_outputs.specs.Paper.Fresh.{fresh_for, fresh_output};
 ghost use Rattle.lighting_frames.specs.Paper.Stations.{fresh_station};
 ghost use Rattle.lighting_outputs.specs.Engine.Advance.{advance};
@@ -86,8 +86,8 @@ fn serve_output(
 ) -> Answer
     requires time_bound { time < 2 ^ 48 }
     requires at_in_bounds { at < length outputs.old }
-    ensures value { result ≡ (served tenant time outputs.old at (Request.ToOutput request)).answer }
-    ensures outputs_after { outputs.new ≡ (served tenant time outputs.old at (Request.ToOutput request)).outputs }
+    ensures value { result ≡ (served tenant time outputs.old at (Ok request)).answer }
+    ensures outputs_after { outputs.new ≡ (served tenant time outputs.old at (Ok request)).outputs }
 {
     let done = output_acting::act(tenant, time, outputs[at], request);
     outputs[at] = done.output;
@@ -103,7 +103,7 @@ pub fn serve(outputs: &mut [Output], tenant: bool, time: u64, at: usize, request
     ensures outputs_after { outputs.new ≡ (served tenant time outputs.old at request).outputs }
 {
     match request {
-        Request::Refuse(number) => Answer::Refused(number),
-        Request::ToOutput(asked) => serve_output(outputs, tenant, time, at, asked),
+        Err(refusal) => Answer::from(refusal),
+        Ok(asked) => serve_output(outputs, tenant, time, at, asked),
     }
 }

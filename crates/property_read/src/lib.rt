@@ -6,7 +6,7 @@ ghost use Rattle.lighting_levels.specs.Paper.Choice.{when◌then◌else◌};
 ghost use Rattle.lighting_outputs.specs.Paper.Tenants.{shown_level, hidden};
 ghost use Rattle.lighting_outputs.specs.Paper.Properties.{level_answer, slot_answer, flag, elapsed_active, real_answer, real_field_answer, time_field_answer, last_duration, read_property};
 
-use lighting_outputs::{Answer, Duration, Output, Property, RealField, Slots, TimeField};
+use lighting_outputs::{Answer, Duration, Output, Property, Refusal, Slots};
 
 #[tactic(auto, unfolding(lighting_outputs::specs::Paper::Properties::level_answer))]
 fn level_answer(v: u32) -> Answer
@@ -71,22 +71,22 @@ fn real_answer(x: f32) -> Answer
 // A field of the last command: absent where its operation has none, also where a setting was used in its
 // place.
 #[tactic(auto, unfolding(lighting_outputs::specs::Paper::Properties::real_field_answer))]
-fn real_field_answer(x: RealField) -> Answer
+fn real_field_answer(x: Option<f32>) -> Answer
     ensures { result ≡ real_field_answer x }
 {
     match x {
-        RealField::Real(real) => real_answer(real),
-        RealField::NoReal => Answer::Absent,
+        Some(real) => real_answer(real),
+        None => Answer::Absent,
     }
 }
 
 #[tactic(auto, unfolding(lighting_outputs::specs::Paper::Properties::time_field_answer))]
-fn time_field_answer(x: TimeField) -> Answer
+fn time_field_answer(x: Option<u32>) -> Answer
     ensures { result ≡ time_field_answer x }
 {
     match x {
-        TimeField::Time(l) => Answer::Value(l),
-        TimeField::NoTime => Answer::Absent,
+        Some(l) => Answer::Value(l),
+        None => Answer::Absent,
     }
 }
 
@@ -141,6 +141,6 @@ pub fn read_property(tenant: bool, t: u64, o: Output, p: Property) -> Answer
         Property::BinaryPresentValue => Answer::Value(flag(o.relay.binary)),
         Property::RelayState => Answer::Value(flag(output_relay::relay_state(o.relay))),
         Property::SlotValue(i) => unhidden_answer(tenant, o.slots, i),
-        Property::Unknown => Answer::Refused(9),
+        Property::Unknown => Answer::from(Refusal::NotWritable),
     }
 }

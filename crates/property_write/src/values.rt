@@ -4,23 +4,22 @@ ghost use Rattle.std.specs.Prelude.{◌≡◌, true, ◌-◌};
 ghost use Rattle.lighting_outputs.specs.Paper.Rows.{is_priority};
 ghost use Rattle.lighting_outputs.specs.Paper.Properties.{change_to, change_by};
 
-use lighting_levels::Level;
-use lighting_outputs::{OutputRequest, Property, Range, Request};
+use lighting_outputs::{OutputRequest, Property, Range, Refusal, Request};
 
 // The write of a value that is taken, as it is kept.
 fn kept(n: Property, value: u32) -> Request
-    ensures { result ≡ Request.ToOutput (OutputRequest.Change n value) }
+    ensures { result ≡ Ok (OutputRequest.Change n value) }
 {
-    Request::ToOutput(OutputRequest::Change { property: n, value })
+    Ok(OutputRequest::Change { property: n, value })
 }
 
 #[tactic(auto, unfolding(lighting_outputs::specs::Paper::Properties::change_to))]
-fn change_to(n: Property, v: Level) -> Request
+fn change_to(n: Property, v: Option<u32>) -> Request
     ensures { result ≡ change_to n v }
 {
     match v {
-        Level::Units(value) => kept(n, value),
-        Level::OutOfRange => Request::Refuse(11),
+        Some(value) => kept(n, value),
+        None => Err(Refusal::RealOutOfRange),
     }
 }
 
@@ -32,12 +31,12 @@ pub fn change_by(row: Range, n: Property, x: u32) -> Request
         Range::Percent => change_to(n, number_level::level_of(x)),
         Range::Limit => change_to(n, number_level::limit_of(x)),
         Range::Amount if number_ranges::rows::is_amount_pattern(x) => kept(n, x),
-        Range::Amount => Request::Refuse(11),
+        Range::Amount => Err(Refusal::RealOutOfRange),
         Range::Whole { low, high } if number_ranges::is_within(low, high, x) => kept(n, x),
-        Range::Whole { .. } => Request::Refuse(12),
+        Range::Whole { .. } => Err(Refusal::WholeOutOfRange),
         Range::Priority if number_ranges::is_priority(x) => kept(n, x - 1),
-        Range::Priority => Request::Refuse(10),
-        Range::ReadOnly => Request::Refuse(9),
+        Range::Priority => Err(Refusal::BadPriority),
+        Range::ReadOnly => Err(Refusal::NotWritable),
     }
 }
 

@@ -1,5 +1,6 @@
 -- FROM A LIST'S TEXT TO DEMAND 3: after the whole text of any list of strings, the outputs of the set that it
 -- names show what the plain panel shows that is given the same set and marks.
+use Rattle.std.specs.Prelude.{Result, Ok, Err}
 use mathlib.Core.Path.{◌≡◌, refl, ap, ap₂, ◌∙◌}
 use mathlib.Core.Bool.{Bool, true, false}
 use mathlib.Core.List.{List, [], ◌∷◌, ◌++◌, map}
@@ -21,7 +22,7 @@ use Rattle.lighting_outputs.specs.declared.Answer.TheVariants.{Done}
 use Rattle.lighting_outputs.specs.declared.Output.{Output}
 use Rattle.lighting_frames.specs.declared.Station.{Station}
 use Rattle.lighting_frames.specs.declared.Verdict.{Verdict}
-use Rattle.lighting_frames.specs.declared.Verdict.TheVariants.{TurnedDown, Copied, Clocked, Arrives}
+use Rattle.lighting_frames.specs.declared.Verdict.TheVariants.{Copied, Clocked, Arrives}
 use Rattle.lighting_levels.proofs.Split.{by_bool, eqb_hit}
 use Rattle.lighting_panel.proofs.Table.{served_length}
 use Rattle.lighting_panel.proofs.Calls.{once}
@@ -39,6 +40,7 @@ use Rattle.replay_line.specs.Listed.{Lines, none, string, remark, Listing, named
 use Rattle.replay_line.proofs.Spelled.{spelled}
 use Rattle.replay_line.proofs.Through.{through_line}
 use Rattle.replay_line.proofs.Parts.{taken_blank, closed_newline}
+use Rattle.lighting_outputs.specs.declared.refusals.Refusal.{Refusal}
 
 -- A FRAME leaves as many records as there were, and the set
 record Alike (e q : Panel) : Type 0 where
@@ -46,13 +48,13 @@ record Alike (e q : Panel) : Type 0 where
   stations : length q.stations ≡ length e.stations
   parameters : q.kept.parameters ≡ e.kept.parameters
 
-execute_alike : (b : Bytes) (e : Panel) (v : Verdict) → Alike e (execute b e v).panel
+execute_alike : (b : Bytes) (e : Panel) (v : Result Verdict Refusal) → Alike e (execute b e v).panel
 unfolding execute
-execute_alike b e (TurnedDown r) = record { outputs = refl; stations = refl; parameters = refl }
-execute_alike b e (Copied a) = record { outputs = refl; stations = refl; parameters = refl }
-execute_alike b e (Clocked t) =
+execute_alike b e (Err r) = record { outputs = refl; stations = refl; parameters = refl }
+execute_alike b e (Ok (Copied a)) = record { outputs = refl; stations = refl; parameters = refl }
+execute_alike b e (Ok (Clocked t)) =
     record { outputs = length-map e.outputs (advance e.kept.time t); stations = refl; parameters = refl }
-execute_alike b e (Arrives call) =
+execute_alike b e (Ok (Arrives call)) =
     record {
       outputs =
           served_length _ call.time (map (advance e.kept.time call.time) e.outputs) call.output

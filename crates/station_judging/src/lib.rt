@@ -9,7 +9,7 @@ ghost use Rattle.lighting_panel.specs.Paper.Panel.{counts_sound};
 ghost use Rattle.lighting_panel.specs.Engine.Judging.{restored, judged_by_number, station_of, judged_by_station};
 
 use lighting_frames::{Call, Frame, Station, Verdict};
-use lighting_outputs::Parameters;
+use lighting_outputs::{Parameters, Refusal};
 
 // ---- the counts, and a station's record rule
 
@@ -33,51 +33,51 @@ pub fn station_sound(k: Station) -> bool
 
 // The station's last number: the same bytes are a copy, which gets the last answer, and others refusal 6.
 #[tactic(auto, using(lighting_levels::proofs::Choosing::ifs), unfolding(lighting_frames::specs::Paper::Copies::retransmission_or_conflict))]
-fn retransmission_or_conflict(k: Station, b: &[u8]) -> Verdict
+fn retransmission_or_conflict(k: Station, b: &[u8]) -> Result<Verdict, Refusal>
     ensures { result ≡ retransmission_or_conflict (same_bytes b.now (restored k.frame)) k.answer }
 {
     if station_frame::same_frame(b, k.frame) {
-        Verdict::Copied(k.answer)
+        Ok(Verdict::Copied(k.answer))
     } else {
-        Verdict::TurnedDown(6)
+        Err(Refusal::OtherBytes)
     }
 }
 
 // The number is judged before the time: a late copy is a copy.
 #[tactic(auto, using(lighting_levels::proofs::Choosing::ifs), unfolding(lighting_panel::specs::Engine::Judging::judged_by_number))]
-fn judge_by_number(at: u64, k: Station, b: &[u8], call: Call) -> Verdict
+fn judge_by_number(at: u64, k: Station, b: &[u8], call: Call) -> Result<Verdict, Refusal>
     ensures { result ≡ judged_by_number at k (same_bytes b.now (restored k.frame)) call }
 {
     if call.number == k.number {
         retransmission_or_conflict(k, b)
     } else if call.number < k.number {
-        Verdict::TurnedDown(7)
+        Err(Refusal::PastNumber)
     } else if call.time < at {
-        Verdict::TurnedDown(8)
+        Err(Refusal::PastTime)
     } else {
-        Verdict::Arrives(call)
+        Ok(Verdict::Arrives(call))
     }
 }
 
 #[tactic(auto, unfolding(lighting_panel::specs::Engine::Judging::station_of))]
-pub fn station_of(f: Frame) -> u8
+pub fn station_of(f: Result<Frame, Refusal>) -> u8
     ensures { result ≡ station_of f }
 {
     match f {
-        Frame::Bad(_) | Frame::Clock(_) => 0,
-        Frame::Calls(call) => call.station,
+        Err(_) | Ok(Frame::Clock(_)) => 0,
+        Ok(Frame::Calls(call)) => call.station,
     }
 }
 
 // What is to be done with the frame f of bytes b, whose station's record is k.
 #[tactic(auto, using(lighting_levels::proofs::Choosing::ifs, lighting_panel::proofs::Laws::judged_by_record_on), unfolding(lighting_panel::specs::Engine::Judging::judged_by_record, lighting_panel::specs::Engine::Judging::judged_by_station))]
-pub fn judge_by_station(at: u64, k: Station, b: &[u8], f: Frame) -> Verdict
+pub fn judge_by_station(at: u64, k: Station, b: &[u8], f: Result<Frame, Refusal>) -> Result<Verdict, Refusal>
     ensures { result ≡ judged_by_station at k b.now f }
 {
     match f {
-        Frame::Bad(r) => Verdict::TurnedDown(r),
-        Frame::Clock(t) if t < at => Verdict::TurnedDown(8),
-        Frame::Clock(t) => Verdict::Clocked(t),
-        Frame::Calls(call) => judge_by_number(at, k, b, call),
+        Err(r) => Err(r),
+        Ok(Frame::Clock(t)) if t < at => Err(Refusal::PastTime),
+        Ok(Frame::Clock(t)) => Ok(Verdict::Clocked(t)),
+        Ok(Frame::Calls(call)) => judge_by_number(at, k, b, call),
     }
 }

@@ -5,8 +5,8 @@ ghost use Rattle.std.specs.Prelude.{◌≡◌, ◌≤◌};
 ghost use Rattle.lighting_frames.specs.Paper.Tags.{context_tag, fewest_octets, field_size, real_tag, whole_tag, tags_of, command_tags, held_by};
 ghost use Rattle.lighting_outputs.specs.Paper.Operations.{duration_field};
 
-use lighting_frames::{TagField, TagFields};
-use lighting_outputs::{Command, Duration, Operation, RealField, TimeField};
+use lighting_frames::{TagContent, TagFields};
+use lighting_outputs::{Command, Duration, Operation};
 
 // ---- one field
 
@@ -37,49 +37,49 @@ pub fn fewest_octets(v: u32) -> u8
 
 // A REAL's four octets are its pattern.
 #[tactic(auto, unfolding(lighting_frames::specs::Paper::Tags::real_tag))]
-fn real_tag(x: RealField) -> TagField
+fn real_tag(x: Option<f32>) -> Option<TagContent>
     ensures { result ≡ real_tag x }
 {
     match x {
-        RealField::Real(real) => TagField::Holds {
+        Some(real) => Some(TagContent {
             count: 4,
             value: number_level::bits_of(real),
-        },
-        RealField::NoReal => TagField::Missing,
+        }),
+        None => None,
     }
 }
 
 #[tactic(auto, unfolding(lighting_frames::specs::Paper::Tags::whole_tag))]
-fn whole_tag(x: TimeField) -> TagField
+fn whole_tag(x: Option<u32>) -> Option<TagContent>
     ensures { result ≡ whole_tag x }
 {
     match x {
-        TimeField::Time(v) => TagField::Holds {
+        Some(v) => Some(TagContent {
             count: fewest_octets(v),
             value: v,
-        },
-        TimeField::NoTime => TagField::Missing,
+        }),
+        None => None,
     }
 }
 
 // How many bytes a field takes: its tag and its content.
 #[tactic(auto, unfolding(lighting_frames::specs::Paper::Tags::field_size))]
-pub fn field_size(field: TagField) -> usize
+pub fn field_size(field: Option<TagContent>) -> usize
     ensures { (result ≡ field_size field) × (result ≤ 256) }
 {
     match field {
-        TagField::Holds { count, .. } => 1 + usize::from(count),
-        TagField::Missing => 0,
+        Some(TagContent { count, .. }) => 1 + usize::from(count),
+        None => 0,
     }
 }
 
 #[tactic(auto, unfolding(lighting_frames::specs::Paper::Tags::held_by))]
-pub fn held_by(field: TagField) -> u32
+pub fn held_by(field: Option<TagContent>) -> u32
     ensures { result ≡ held_by field }
 {
     match field {
-        TagField::Holds { value, .. } => value,
-        TagField::Missing => 0,
+        Some(TagContent { value, .. }) => value,
+        None => 0,
     }
 }
 
@@ -87,15 +87,15 @@ pub fn held_by(field: TagField) -> u32
 
 // An operation with its own fields, and a duration.
 #[tactic(auto, unfolding(lighting_frames::specs::Paper::Tags::tags_of))]
-pub fn tags_of(operation: Operation, duration: TimeField) -> TagFields
+pub fn tags_of(operation: Operation, duration: Option<u32>) -> TagFields
     ensures { result ≡ tags_of operation duration }
 {
     let own = command_operations::fields_of(operation);
     TagFields {
-        operation: TagField::Holds {
+        operation: Some(TagContent {
             count: 1,
             value: command_operations::operation_number(operation),
-        },
+        }),
         level: real_tag(own.level),
         rate: real_tag(own.rate),
         step: real_tag(own.step),
@@ -106,13 +106,13 @@ pub fn tags_of(operation: Operation, duration: TimeField) -> TagFields
 
 // An omitted duration is a missing field, and one that cancels is 0.
 #[tactic(auto, unfolding(lighting_outputs::specs::Paper::Operations::duration_field))]
-fn duration_field(duration: Duration) -> TimeField
+fn duration_field(duration: Duration) -> Option<u32>
     ensures { result ≡ duration_field duration }
 {
     match duration {
-        Duration::Lasts(d) => TimeField::Time(d),
-        Duration::Cancels => TimeField::Time(0),
-        Duration::Omitted => TimeField::NoTime,
+        Duration::Lasts(d) => Some(d),
+        Duration::Cancels => Some(0),
+        Duration::Omitted => None,
     }
 }
 

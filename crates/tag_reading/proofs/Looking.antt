@@ -1,4 +1,5 @@
 -- The octets behind a tag, and a field at the head of what is left.
+use Rattle.std.specs.Prelude.{None}
 use mathlib.Core.Path.{◌≡◌, sym, ◌∙◌}
 use mathlib.Core.Bool.{Bool, true, false}
 use mathlib.Core.List.{List}
@@ -10,8 +11,7 @@ use borrow.Author.Tests.{lt-ltb, le-ltb}
 use Rattle.lighting_levels.specs.Paper.Choice.{when◌then◌else◌}
 use Rattle.lighting_levels.specs.Paper.Field.{byte_at, big_endian}
 use Rattle.lighting_outputs.specs.Paper.Rows.{within}
-use Rattle.lighting_frames.specs.Paper.Tags.{context_tag, field_in}
-use Rattle.lighting_frames.specs.declared.TagField.TheVariants.{Holds, Missing}
+use Rattle.lighting_frames.specs.Paper.Tags.{context_tag, field_in, holds}
 use Rattle.lighting_outputs.proofs.Rules.Facts.{Within}
 use Rattle.lighting_levels.proofs.Fields.{joined, below}
 use Rattle.lighting_outputs.proofs.Rules.Tied.{within_of}
@@ -34,14 +34,14 @@ module _ (number least most : ℕ) (left : List ℕ) {low high tag : ℕ} {flag 
     counted : count ≡ byte_at left 0 - context_tag number 0
     counted = rw (t, z) at c
 
-    pub found : {value : ℕ} → count < length left → value ≡ big_endian count left 1 → Holds count value ≡ field_in number (record { least = least; most = most }) left
+    pub found : {value : ℕ} → count < length left → value ≡ big_endian count left 1 → holds count value ≡ field_in number (record { least = least; most = most }) left
     unfolding field_in when◌then◌else◌
     found s v = rw (tagged true f, ← counted, lt-ltb _ _ s, v)
 
-    pub cut_short : length left ≤ count → Missing ≡ field_in number (record { least = least; most = most }) left
+    pub cut_short : length left ≤ count → None ≡ field_in number (record { least = least; most = most }) left
     unfolding field_in when◌then◌else◌
     cut_short s = rw (tagged true f, ← counted, le-ltb _ _ s)
 
-  pub elsewhere : flag ≡ false → Missing ≡ field_in number (record { least = least; most = most }) left
+  pub elsewhere : flag ≡ false → None ≡ field_in number (record { least = least; most = most }) left
   unfolding field_in when◌then◌else◌
   elsewhere f = rw (tagged false f)

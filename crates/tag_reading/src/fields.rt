@@ -3,7 +3,7 @@ ghost use Rattle.std.specs.Prelude.{◌≡◌, ◌≤◌, take, drop};
 ghost use Rattle.lighting_levels.specs.Paper.Field.{big_endian};
 ghost use Rattle.lighting_frames.specs.Paper.Tags.{tag_octets, named, field_size, field_in, fields_from, length_of, body_fields};
 
-use lighting_frames::{TagField, TagFields};
+use lighting_frames::{TagContent, TagFields};
 
 // The number in the `count` octets behind a tag: of the four bytes there, with zeros past the end, the first.
 fn number_behind(left: &[u8], count: u8) -> u32
@@ -22,7 +22,7 @@ fn number_behind(left: &[u8], count: u8) -> u32
 // The field with this number at the head of what is left, of `least` to `most` octets: there if its tag is,
 // and no octet of it is missing.
 #[tactic(auto, using(crate::proofs::Looking::between, crate::proofs::Looking::cut_short, crate::proofs::Looking::elsewhere, crate::proofs::Looking::found))]
-fn field_in(number: u8, least: u8, most: u8, left: &[u8]) -> TagField
+fn field_in(number: u8, least: u8, most: u8, left: &[u8]) -> Option<TagContent>
     requires { (number ≤ 5) × (1 ≤ least) × (least ≤ most) × (most ≤ 4) }
     ensures { result ≡ field_in number (record { least = least; most = most }) left.now }
 {
@@ -34,17 +34,17 @@ fn field_in(number: u8, least: u8, most: u8, left: &[u8]) -> TagField
     ) {
         let count = tag - tag_fields::context_tag(number, 0);
         if usize::from(count) < left.len() {
-            return TagField::Holds {
+            return Some(TagContent {
                 count,
                 value: number_behind(left, count),
-            };
+            });
         }
     }
-    TagField::Missing
+    None
 }
 
 // What is left behind a field: a missing one uses nothing up.
-fn behind(left: &[u8], field: TagField) -> &[u8]
+fn behind(left: &[u8], field: Option<TagContent>) -> &[u8]
     ensures { result.now ≡ drop (field_size field) left.now }
 {
     frame_field::from_on(left, tag_fields::field_size(field))

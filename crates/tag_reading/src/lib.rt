@@ -8,8 +8,8 @@ ghost use Rattle.std.specs.Prelude.{◌≡◌};
 ghost use Rattle.lighting_levels.specs.Paper.Level.{real};
 ghost use Rattle.lighting_frames.specs.Paper.Tags.{listed, sizes, body_fields, zero_beyond, holds_at_most, well_tagged, held_by, operation_of, time_of, both_or_neither, fewest, own_tags, read_fields, read_body};
 
-use lighting_frames::{MOST_TAGGED, TagField, TagFields, TaggedReading};
-use lighting_outputs::{Operation, TimeField};
+use lighting_frames::{MOST_TAGGED, TagContent, TagFields, TaggedCommand};
+use lighting_outputs::{Operation, Refusal};
 
 // ---- refusal 14
 
@@ -34,12 +34,12 @@ fn zero_beyond(body: &[u8]) -> bool
 }
 
 #[tactic(auto, unfolding(lighting_frames::specs::Paper::Tags::holds_at_most))]
-fn holds_at_most(most: u32, field: TagField) -> bool
+fn holds_at_most(most: u32, field: Option<TagContent>) -> bool
     ensures { result ≡ holds_at_most most field }
 {
     match field {
-        TagField::Holds { value, .. } => value <= most,
-        TagField::Missing => true,
+        Some(TagContent { value, .. }) => value <= most,
+        None => true,
     }
 }
 
@@ -59,7 +59,7 @@ fn well_tagged(body: &[u8], f: TagFields) -> bool
 
 // ---- the operation and the duration
 
-fn real_in(field: TagField) -> f32
+fn real_in(field: Option<TagContent>) -> f32
     ensures { result ≡ real (held_by field) }
 {
     number_level::real_from(tag_fields::held_by(field))
@@ -87,34 +87,34 @@ fn operation_of(f: TagFields) -> Operation
 }
 
 #[tactic(auto, unfolding(lighting_frames::specs::Paper::Tags::time_of))]
-fn time_of(field: TagField) -> TimeField
+fn time_of(field: Option<TagContent>) -> Option<u32>
     ensures { result ≡ time_of field }
 {
     match field {
-        TagField::Holds { value, .. } => TimeField::Time(value),
-        TagField::Missing => TimeField::NoTime,
+        Some(TagContent { value, .. }) => Some(value),
+        None => None,
     }
 }
 
 // ---- refusal 15
 
 #[tactic(auto, unfolding(lighting_frames::specs::Paper::Tags::both_or_neither))]
-fn both_or_neither(own: TagField, field: TagField) -> bool
+fn both_or_neither(own: Option<TagContent>, field: Option<TagContent>) -> bool
     ensures { result ≡ both_or_neither own field }
 {
     matches!(
         (own, field),
-        (TagField::Holds { .. }, TagField::Holds { .. }) | (TagField::Missing, TagField::Missing)
+        (Some(TagContent { .. }), Some(TagContent { .. })) | (None, None)
     )
 }
 
 #[tactic(auto, unfolding(lighting_frames::specs::Paper::Tags::fewest))]
-fn is_fewest(field: TagField) -> bool
+fn is_fewest(field: Option<TagContent>) -> bool
     ensures { result ≡ fewest field }
 {
     match field {
-        TagField::Holds { count, value } => count == tag_fields::fewest_octets(value),
-        TagField::Missing => true,
+        Some(TagContent { count, value }) => count == tag_fields::fewest_octets(value),
+        None => true,
     }
 }
 
@@ -135,29 +135,29 @@ fn own_tags(own: TagFields, f: TagFields) -> bool
 // ---- the reading
 
 #[tactic(auto, using(lighting_levels::proofs::Choosing::ifs), unfolding(lighting_frames::specs::Paper::Tags::read_fields))]
-fn read_fields(f: TagFields) -> TaggedReading
+fn read_fields(f: TagFields) -> Result<TaggedCommand, Refusal>
     ensures { result ≡ read_fields f }
 {
     let operation = operation_of(f);
     let duration = time_of(f.duration);
     if own_tags(tag_fields::tags_of(operation, duration), f) {
-        TaggedReading::Reads {
+        Ok(TaggedCommand {
             operation,
             duration,
-        }
+        })
     } else {
-        TaggedReading::Unreadable(15)
+        Err(Refusal::BadFields)
     }
 }
 
 #[tactic(auto, using(lighting_levels::proofs::Choosing::ifs), unfolding(lighting_frames::specs::Paper::Tags::read_body))]
-pub fn read_body(body: &[u8]) -> TaggedReading
+pub fn read_body(body: &[u8]) -> Result<TaggedCommand, Refusal>
     ensures { result ≡ read_body body.now }
 {
     let f = fields::body_fields(body);
     if well_tagged(body, f) {
         read_fields(f)
     } else {
-        TaggedReading::Unreadable(14)
+        Err(Refusal::BadTags)
     }
 }

@@ -1,4 +1,5 @@
 -- A number's octets, and a field's bytes.
+use Rattle.std.specs.Prelude.{Option, None, Some}
 use mathlib.Core.Path.{◌≡◌, refl, ap}
 use mathlib.Core.List.{List, [], ◌∷◌}
 use Prim.Native.Nat.{ℕ, zero, suc, ◌-◌, ◌/◌, ◌%◌, ◌≤◌}
@@ -7,8 +8,7 @@ use lib.ListN.{take, drop}
 use lib.Seq.{take_all}
 use Rattle.lighting_levels.specs.Paper.Field.{octets}
 use Rattle.lighting_frames.specs.Paper.Tags.{context_tag, field_size, field_bytes}
-use Rattle.lighting_frames.specs.declared.TagField.{TagField}
-use Rattle.lighting_frames.specs.declared.TagField.TheVariants.{Holds, Missing}
+use Rattle.lighting_frames.specs.declared.TagContent.{TagContent}
 use Rattle.lighting_frames.proofs.Octets.{length_octets}
 use Rattle.text_printing.specs.Page.{Wrote}
 use Rattle.text_printing.proofs.Pages.{wrote_then, wrote_none}
@@ -34,17 +34,17 @@ last_octets count v bytes e h =
     rw (e, last count v h, n) (take_all count (octets count v) (omega (arith, length_octets count v)))
 
 -- A FIELD, written
-pub count_most : {field : TagField} {count value : ℕ} → field ≡ Holds count value → field_size field ≤ 5 → count ≤ 4
+pub count_most : {field : Option TagContent} {content : TagContent} → field ≡ Some content → field_size field ≤ 5 → content.count ≤ 4
 unfolding field_size
 count_most e h = omega (arith, rw e at h)
 
-module _ (number : ℕ) {field : TagField} {page : List ℕ} {at : ℕ} where
-  pub wrote_field : {count value tag mark mark' : ℕ} {page' page'' : List ℕ} → field ≡ Holds count value → tag ≡ context_tag number count → Wrote page at (tag ∷ []) page' mark
-      → Wrote page' mark (octets count value) page'' mark'
+module _ (number : ℕ) {field : Option TagContent} {page : List ℕ} {at : ℕ} where
+  pub wrote_field : {content : TagContent} {tag mark mark' : ℕ} {page' page'' : List ℕ} → field ≡ Some content → tag ≡ context_tag number content.count → Wrote page at (tag ∷ []) page' mark
+      → Wrote page' mark (octets content.count content.value) page'' mark'
       → Wrote page at (field_bytes number field) page'' mark'
   unfolding field_bytes
   wrote_field e t f g = rw (e, ← t) (wrote_then f g)
 
-  pub wrote_missing : field ≡ Missing → Wrote page at (field_bytes number field) page at
+  pub wrote_missing : field ≡ None → Wrote page at (field_bytes number field) page at
   unfolding field_bytes
   wrote_missing e = rw e (wrote_none page at)

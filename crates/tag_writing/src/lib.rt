@@ -7,7 +7,7 @@ ghost use Rattle.lighting_levels.specs.Paper.Field.{octets};
 ghost use Rattle.lighting_frames.specs.Paper.Tags.{field_size, field_bytes, tag_bytes, command_tags, tagged_body};
 ghost use Rattle.text_printing.specs.Page.{Wrote};
 
-use lighting_frames::{MOST_TAGGED, TagField, TagFields, TaggedBody};
+use lighting_frames::{MOST_TAGGED, TagContent, TaggedBody};
 use lighting_outputs::Command;
 
 // ---- one field
@@ -38,16 +38,16 @@ fn put_octets(page: &mut [u8], at: usize, count: u8, v: u32) -> usize
 
 // No field is of more than four octets.
 #[tactic(auto, using(crate::proofs::Bytes::count_most))]
-fn put_field(page: &mut [u8], at: usize, number: u8, field: TagField) -> usize
+fn put_field(page: &mut [u8], at: usize, number: u8, field: Option<TagContent>) -> usize
     requires { (number ≤ 5) × (field_size field ≤ 5) }
     ensures { Wrote page.old at (field_bytes number field) page.new result }
 {
     match field {
-        TagField::Holds { count, value } => {
-            let content = text_printing::put(page, at, tag_fields::context_tag(number, count));
-            put_octets(page, content, count, value)
+        Some(content) => {
+            let mark = text_printing::put(page, at, tag_fields::context_tag(number, content.count));
+            put_octets(page, mark, content.count, content.value)
         }
-        TagField::Missing => at,
+        None => at,
     }
 }
 

@@ -1,4 +1,5 @@
 -- Every text that is put on a page with room fits it, and so it stands there whole.
+use Rattle.std.specs.Prelude.{Option, Some, None}
 use mathlib.Core.Path.{◌≡◌, refl, ap, ◌∙◌}
 use mathlib.Core.Bool.{Bool, true, false}
 use mathlib.Core.List.{List, [], ◌∷◌, ◌++◌}
@@ -23,7 +24,6 @@ use Rattle.lighting_outputs.specs.declared.Operation.TheVariants.{Stop, FadeTo, 
 use Rattle.lighting_outputs.specs.declared.Output.{Output}
 use Rattle.lighting_outputs.specs.declared.Slots.{Slots}
 use Rattle.lighting_outputs.specs.declared.Timer.{Timer}
-use Rattle.lighting_outputs.specs.declared.Timer.TheVariants.{Off, Running}
 use Rattle.lighting_levels.proofs.Split.{by_bool, by_lt}
 use Rattle.text_printing.specs.Text.{text}
 use Rattle.text_printing.specs.Writing.{answer_line}
@@ -138,10 +138,10 @@ activity_length Still = omega arith
 activity_length (Moving m) = omega (arith, until_length (text "  moving until ") m.over)
 activity_length (Warned w) = omega (arith, until_length (text "  blink warning until ") w.over)
 
-timer_length : (x : Timer) → length (timer_text x) ≤ 47
+timer_length : (x : Option Timer) → length (timer_text x) ≤ 47
 unfolding timer_text
-timer_length Off = omega arith
-timer_length (Running slot due) = omega (arith, until_length (text "  duration until ") due)
+timer_length None = omega arith
+timer_length (Some timer) = omega (arith, until_length (text "  duration until ") timer.due)
 
 pub report_length : (i t : ℕ) (o : Output) → length (report_line i t o) ≤ 243
 unfolding report_line light_fields level_fields time_fields relay_field way_fields

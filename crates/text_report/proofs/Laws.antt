@@ -1,4 +1,5 @@
 -- Each definition by clauses, at the variant that a match has found (as lighting/proofs/Laws.antt).
+use Rattle.std.specs.Prelude.{Option}
 use mathlib.Core.Path.{◌≡◌}
 use Prim.Native.Nat.{ℕ}
 use Rattle.lighting_frames.specs.Paper.Frames.{Bytes}
@@ -14,5 +15,5 @@ operation_name_on p at a q r k e f = rw e f
 pub activity_text_on : (p : Bytes) (at : ℕ) (a : Activity) (q : Bytes) (r : ℕ) (k : Activity) → a ≡ k → Wrote p at (activity_text k) q r → Wrote p at (activity_text a) q r
 activity_text_on p at a q r k e f = rw e f
 
-pub timer_text_on : (p : Bytes) (at : ℕ) (a : Timer) (q : Bytes) (r : ℕ) (k : Timer) → a ≡ k → Wrote p at (timer_text k) q r → Wrote p at (timer_text a) q r
+pub timer_text_on : (p : Bytes) (at : ℕ) (a : Option Timer) (q : Bytes) (r : ℕ) (k : Option Timer) → a ≡ k → Wrote p at (timer_text k) q r → Wrote p at (timer_text a) q r
 timer_text_on p at a q r k e f = rw e f

@@ -1,6 +1,6 @@
 -- The report for people: a line for each output. Levels are in percent, cut to hundredths; times since the
 -- start of the panel.
-use Rattle.std.specs.Prelude.{Bool, [], ◌∷◌, ◌++◌, ℕ, ◌+◌, ◌*◌, ◌/◌, ◌%◌, ltb}
+use Rattle.std.specs.Prelude.{Bool, [], ◌∷◌, ◌++◌, ℕ, ◌+◌, ◌*◌, ◌/◌, ◌%◌, ltb, Option, Some, None}
 use Rattle.lighting_levels.specs.Paper.Choice.{when◌then◌else◌}
 use Rattle.lighting_frames.specs.Paper.Frames.{Bytes}
 use Rattle.lighting_outputs.specs.Paper.Value.{present_value, progress_value, lit}
@@ -9,7 +9,6 @@ use Rattle.lighting_outputs.specs.declared.Relay.{Relay}
 use Rattle.lighting_outputs.specs.declared.Activity.{Activity}
 use Rattle.lighting_outputs.specs.declared.Activity.TheVariants.{Still, Moving, Warned}
 use Rattle.lighting_outputs.specs.declared.Timer.{Timer}
-use Rattle.lighting_outputs.specs.declared.Timer.TheVariants.{Off, Running}
 use Rattle.lighting_outputs.specs.declared.Operation.{Operation}
 use Rattle.lighting_outputs.specs.declared.Operation.TheVariants.{Stop, FadeTo, FadeToOver, RampTo, RampToAtRate, StepUp, StepDown, StepUpBy, StepDownBy, Goto, Relinquish}
 use Rattle.lighting_outputs.specs.declared.Output.{Output}
@@ -78,9 +77,9 @@ activity_text Still = []
 activity_text (Moving m) = until (text "  moving until ") m.over
 activity_text (Warned w) = until (text "  blink warning until ") w.over
 
-unfoldable pub timer_text : Timer → Bytes
-timer_text Off = []
-timer_text (Running slot due) = until (text "  duration until ") due
+unfoldable pub timer_text : Option Timer → Bytes
+timer_text None = []
+timer_text (Some timer) = until (text "  duration until ") timer.due
 
 -- THE LINE of the output i at the time t: output, whether its lamp gives light (by Progress_Value: §2 of the
 -- change requests), present and progress level, burning time, last command, the relay's state (§3), what is

@@ -143,12 +143,12 @@ fn put_activity(page: &mut [u8], at: usize, a: Activity) -> usize
 }
 
 #[tactic(auto, unfolding(crate::specs::Report::timer_text))]
-fn put_timer(page: &mut [u8], at: usize, t: Timer) -> usize
+fn put_timer(page: &mut [u8], at: usize, t: Option<Timer>) -> usize
     ensures { Wrote page.old at (timer_text t) page.new result }
 {
     match t {
-        Timer::Off => at,
-        Timer::Running { slot: _, due } => put_until(page, at, b"  duration until ", due),
+        None => at,
+        Some(Timer { slot: _, due }) => put_until(page, at, b"  duration until ", due),
     }
 }
 

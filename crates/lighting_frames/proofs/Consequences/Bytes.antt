@@ -36,8 +36,8 @@ use Rattle.lighting_frames.proofs.KindTable.{rows_from, each_row}
 use Rattle.lighting_outputs.proofs.Consequences.Alone.{alone}
 use Rattle.lighting_outputs.proofs.Rules.PrioritiesNamed.{priority_yes, NoPriority, priority_no}
 use Rattle.lighting_outputs.specs.Paper.Properties.{property_of, change_of}
-use Rattle.lighting_outputs.specs.declared.Refusal.{Refusal}
-use Rattle.lighting_outputs.specs.declared.Refusal.TheVariants.{UnknownKind, WrongLength, UnknownStation, UnknownOutput, NotWritable, RealOutOfRange, BadPriority}
+use Rattle.lighting_outputs.specs.declared.refusals.Refusal.{Refusal}
+use Rattle.lighting_outputs.specs.declared.refusals.Refusal.TheVariants.{UnknownKind, WrongLength, UnknownStation, UnknownOutput, NotWritable, RealOutOfRange, BadPriority}
 
 -- THE TABLE OF KINDS: 01 to 05 and 10 to 1B have these lengths, and no other kind is known
 pub lengths : map kind_length (0x01 ∷ 0x02 ∷ 0x03 ∷ 0x04 ∷ 0x05 ∷ 0x10 ∷ 0x11 ∷ 0x12 ∷ 0x13 ∷ 0x14 ∷ 0x15 ∷ 0x16 ∷ 0x17 ∷ 0x18 ∷ 0x19 ∷ 0x1a ∷ 0x1b ∷ [])

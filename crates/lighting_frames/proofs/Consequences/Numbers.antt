@@ -8,7 +8,7 @@ use Rattle.lighting_outputs.specs.Paper.Parameters.{document01}
 use Rattle.lighting_frames.specs.Paper.Frames.{called}
 use Rattle.lighting_frames.specs.declared.Call.{Call}
 use Rattle.lighting_frames.specs.declared.Frame.TheVariants.{Calls}
-use Rattle.lighting_outputs.specs.declared.Refusal.TheVariants.{UnknownStation, UnknownOutput}
+use Rattle.lighting_outputs.specs.declared.refusals.Refusal.TheVariants.{UnknownStation, UnknownOutput}
 
 -- 'station over 7, or number 0' is 4, 'output not in the table' is 5
 pub stations : (outputs c : ℕ) (call : Call)

@@ -30,7 +30,7 @@ use Rattle.lighting_outputs.proofs.Patterns.{level_field_kept, amount_field_kept
 use Rattle.lighting_frames.proofs.Consequences.Bytes.{asked}
 use Rattle.lighting_outputs.proofs.Consequences.Alone.{alone}
 use Rattle.lighting_outputs.proofs.Consequences.Reads.{reads, refused}
-use Rattle.lighting_outputs.specs.declared.Refusal.{Refusal}
+use Rattle.lighting_outputs.specs.declared.refusals.Refusal.{Refusal}
 
 -- properties 0F to 14: last operation, level, rate, step, fade time, duration
 abbrev pub last : ℕ → Output → List Answer

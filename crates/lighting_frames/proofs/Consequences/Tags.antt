@@ -51,7 +51,7 @@ use Rattle.lighting_frames.proofs.Tagging.Only.{only_written}
 use Rattle.lighting_frames.proofs.Tagging.PlainInTags.{SameIf, same}
 use Rattle.lighting_frames.proofs.Tagging.InTags.{tagged_asks, sent_as, parse_sent}
 use Rattle.lighting_outputs.proofs.Consequences.Alone.{alone}
-use Rattle.lighting_outputs.specs.declared.Refusal.TheVariants.{WholeOutOfRange, BadTags}
+use Rattle.lighting_outputs.specs.declared.refusals.Refusal.TheVariants.{WholeOutOfRange, BadTags}
 
 -- A BODY THAT IS NOT WELL TAGGED is 14, whatever else is wrong with it
 module _ (body : Bytes) where

@@ -25,7 +25,7 @@ use Rattle.lighting_levels.proofs.Split.{by_bool, by_eq, also_both, also_yes, eq
 use Rattle.lighting_frames.proofs.KindTable.{kind_byte}
 use Rattle.lighting_frames.proofs.Tagging.Bodies.{sizes_written, fields_read, well_written}
 use Rattle.lighting_frames.proofs.Tagging.PlainInTags.{plain_body, Same, SameIf, same}
-use Rattle.lighting_outputs.specs.declared.Refusal.{Refusal}
+use Rattle.lighting_outputs.specs.declared.refusals.Refusal.{Refusal}
 
 -- A FRAME IN TAGS, of a plain command's frame b and its fields f
 module _ {action : Action} (b : Bytes) (f : TagFields) (s : Same action b f) where

@@ -37,8 +37,8 @@ use Rattle.lighting_frames.proofs.Tagging.Fields.{Fits, AllFit}
 use Rattle.lighting_frames.proofs.Tagging.Bodies.{well_tagged_lem, fields_fit}
 use Rattle.lighting_frames.proofs.Tagging.Commands.{Word, Exact, ExactOperation, lasting_word, reads_written}
 use Rattle.lighting_frames.proofs.Tagging.Only.{IsReal, IsTime, held_word, at_most, operation_of_lem}
-use Rattle.lighting_outputs.specs.declared.Refusal.{Refusal}
-use Rattle.lighting_outputs.specs.declared.Refusal.TheVariants.{NotWritable}
+use Rattle.lighting_outputs.specs.declared.refusals.Refusal.{Refusal}
+use Rattle.lighting_outputs.specs.declared.refusals.Refusal.TheVariants.{NotWritable}
 
 -- AN OPERATION AS FRAMES BRING IT: each REAL has been read from a pattern of 32 bits, and a fade time has 32
 -- bits

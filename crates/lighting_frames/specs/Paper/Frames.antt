@@ -22,8 +22,8 @@ use Rattle.lighting_frames.specs.declared.Frame.{Frame}
 use Rattle.lighting_frames.specs.declared.Call.{Call}
 use Rattle.lighting_frames.specs.declared.Frame.TheVariants.{Clock, Calls}
 use Rattle.lighting_outputs.specs.Paper.Requests.{command_of, command_request, write_of, empty_of}
-use Rattle.lighting_outputs.specs.declared.Refusal.{Refusal}
-use Rattle.lighting_outputs.specs.declared.Refusal.TheVariants.{UnknownKind, WrongLength, UnknownStation, UnknownOutput}
+use Rattle.lighting_outputs.specs.declared.refusals.Refusal.{Refusal}
+use Rattle.lighting_outputs.specs.declared.refusals.Refusal.TheVariants.{UnknownKind, WrongLength, UnknownStation, UnknownOutput}
 
 abbrev pub Bytes : Type 0
 Bytes = List ℕ

@@ -14,8 +14,8 @@ use Rattle.lighting_frames.specs.declared.TagContent.{TagContent}
 use Rattle.lighting_frames.specs.declared.TagFields.{TagFields}
 use Rattle.lighting_frames.specs.declared.TaggedBody.{TaggedBody}
 use Rattle.lighting_frames.specs.declared.TaggedCommand.{TaggedCommand}
-use Rattle.lighting_outputs.specs.declared.Refusal.{Refusal}
-use Rattle.lighting_outputs.specs.declared.Refusal.TheVariants.{BadTags, BadFields}
+use Rattle.lighting_outputs.specs.declared.refusals.Refusal.{Refusal}
+use Rattle.lighting_outputs.specs.declared.refusals.Refusal.TheVariants.{BadTags, BadFields}
 
 -- A TAG. 'context tags (clause 20.2)': one octet before the content: the tag's number in the four high bits,
 -- bit 3 set for a context tag, and in the three low bits of how many octets the content is

@@ -12,7 +12,7 @@ use Rattle.lighting_outputs.specs.declared.Outcome.{Outcome}
 use Rattle.lighting_outputs.specs.Paper.Answers.{Request, refusal_number}
 use Rattle.lighting_outputs.specs.declared.OutputRequest.{OutputRequest}
 use Rattle.lighting_outputs.specs.declared.Answer.TheVariants.{Refused}
-use Rattle.lighting_outputs.specs.declared.Refusal.{Refusal}
+use Rattle.lighting_outputs.specs.declared.refusals.Refusal.{Refusal}
 
 -- WHAT A REQUEST of a service station DOES to the one output of a table, and what it is answered
 abbrev pub alone : ℕ → Output → Request → Outcome

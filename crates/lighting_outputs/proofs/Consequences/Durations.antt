@@ -43,7 +43,7 @@ use Rattle.lighting_outputs.proofs.Rules.RequestInRange.{OutputRequestInRange}
 use Rattle.lighting_outputs.proofs.Acts.Acted.{by_change, acted_sound}
 use Rattle.lighting_outputs.proofs.Consequences.Present.{slot_same, slot_other}
 use Rattle.lighting_outputs.proofs.Consequences.Alone.{alone}
-use Rattle.lighting_outputs.specs.declared.Refusal.TheVariants.{WholeOutOfRange}
+use Rattle.lighting_outputs.specs.declared.refusals.Refusal.TheVariants.{WholeOutOfRange}
 
 -- A STRETCH OF AN OUTPUT'S LIFE without a command: milliseconds, and whatever else a frame may ask, in any
 -- order

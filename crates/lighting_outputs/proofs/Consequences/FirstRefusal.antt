@@ -20,7 +20,7 @@ use Rattle.lighting_outputs.specs.Paper.Requests.{level_field_refusal, amount_fi
 use Rattle.lighting_outputs.specs.declared.Operation.{Operation}
 use Rattle.lighting_outputs.specs.declared.Operation.TheVariants.{FadeTo, FadeToOver, RampTo, RampToAtRate, StepUpBy, StepDownBy, Goto}
 use Rattle.lighting_levels.proofs.Split.{by_bool, eqb_miss, leb_no}
-use Rattle.lighting_outputs.specs.declared.Refusal.TheVariants.{RealOutOfRange, WholeOutOfRange}
+use Rattle.lighting_outputs.specs.declared.refusals.Refusal.TheVariants.{RealOutOfRange, WholeOutOfRange}
 
 -- a whole number out of a range
 abbrev pub OutOf : ℕ → ℕ → ℕ → Type 0

@@ -19,7 +19,7 @@ use Rattle.lighting_outputs.specs.declared.OutputRequest.TheVariants.{Commands}
 use Rattle.lighting_outputs.specs.declared.Property.TheVariants.{FadeTime}
 use Rattle.lighting_outputs.specs.declared.Range.TheVariants.{Whole}
 use Rattle.lighting_outputs.specs.declared.Settings.{Settings}
-use Rattle.lighting_outputs.specs.declared.Refusal.TheVariants.{WholeOutOfRange}
+use Rattle.lighting_outputs.specs.declared.refusals.Refusal.TheVariants.{WholeOutOfRange}
 
 -- stations, outputs, the longest fade time and the longest duration; then the longest movement, the longest
 -- blink time and a fresh Fade_Time

@@ -23,8 +23,8 @@ use Rattle.lighting_outputs.specs.declared.OutputRequest.TheVariants.{Change}
 use Rattle.lighting_levels.proofs.Split.{by_bool}
 use Rattle.lighting_outputs.proofs.Consequences.Alone.{alone}
 use Rattle.lighting_outputs.proofs.Consequences.Outside.{NotFrom, Outside, amounts_refused, amounts_only, levels_refused, levels_only}
-use Rattle.lighting_outputs.specs.declared.Refusal.TheVariants.{RealOutOfRange, NotWritable, BadPriority, WholeOutOfRange}
-use Rattle.lighting_outputs.specs.declared.Refusal.{Refusal}
+use Rattle.lighting_outputs.specs.declared.refusals.Refusal.TheVariants.{RealOutOfRange, NotWritable, BadPriority, WholeOutOfRange}
+use Rattle.lighting_outputs.specs.declared.refusals.Refusal.{Refusal}
 
 -- a rate or a step
 amount_refused : (x : Float) → NotFrom 1 x → is_amount x ≡ false

@@ -41,8 +41,8 @@ use Rattle.lighting_outputs.proofs.Patterns.{amount_kept}
 use Rattle.lighting_outputs.proofs.Consequences.Alone.{alone}
 use Rattle.lighting_outputs.proofs.Rules.PrioritiesNamed.{NoPriority, priority_yes, priority_no}
 use Rattle.lighting_outputs.proofs.Consequences.Reads.{reads, refused}
-use Rattle.lighting_outputs.specs.declared.Refusal.TheVariants.{WholeOutOfRange, BadPriority, NotWritable, RealOutOfRange}
-use Rattle.lighting_outputs.specs.declared.Refusal.{Refusal}
+use Rattle.lighting_outputs.specs.declared.refusals.Refusal.TheVariants.{WholeOutOfRange, BadPriority, NotWritable, RealOutOfRange}
+use Rattle.lighting_outputs.specs.declared.refusals.Refusal.{Refusal}
 
 -- kind 04 of property n with x, at t: a frame of kind 04 whose byte 13 is n, and x the four after it
 abbrev pub writes : (p : Parameters) → ℕ → Output → ℕ → ℕ → Outcome

@@ -22,7 +22,7 @@ use Rattle.lighting_outputs.specs.declared.OutputRequest.TheVariants.{Commands}
 use Rattle.lighting_levels.proofs.Split.{by_bool, by_eq}
 use Rattle.lighting_outputs.proofs.Rules.Tied.{within_of, meets_of}
 use Rattle.lighting_outputs.proofs.Rules.RequestInRange.{OperationInRange, RequestInRange}
-use Rattle.lighting_outputs.specs.declared.Refusal.{Refusal}
+use Rattle.lighting_outputs.specs.declared.refusals.Refusal.{Refusal}
 
 -- RANGES. A refusal that a field may meet: none, or 11, or 12
 abbrev Fit : Option Refusal → Type 0

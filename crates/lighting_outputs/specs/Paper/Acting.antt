@@ -17,7 +17,7 @@ use Rattle.lighting_outputs.specs.declared.Answer.{Answer}
 use Rattle.lighting_outputs.specs.declared.Answer.TheVariants.{Done, Refused}
 use Rattle.lighting_outputs.specs.declared.Output.{Output}
 use Rattle.lighting_outputs.specs.declared.Outcome.{Outcome}
-use Rattle.lighting_outputs.specs.declared.Refusal.TheVariants.{MinOverMax, RelayNotInOrder}
+use Rattle.lighting_outputs.specs.declared.refusals.Refusal.TheVariants.{MinOverMax, RelayNotInOrder}
 
 -- the output changed, and its relay judged (`after_events`, Passing.antt); or left as it was
 unfoldable pub done : Output → Outcome
@@ -50,7 +50,7 @@ pub record Served : Type 0 where
   pub answer : Answer
 
 unfoldable pub served : Bool → ℕ → List Output → ℕ → Request → Served
-served tenant t outputs i (Err r) = record { outputs = outputs; answer = Refused (refusal_number r) }
+served tenant t outputs i (Err refusal) = record { outputs = outputs; answer = Refused (refusal_number refusal) }
 served tenant t outputs i (Ok request) =
     let done = acted tenant t (get_or outputs i fresh_output) request in
     record { outputs = set outputs i done.output; answer = done.answer }

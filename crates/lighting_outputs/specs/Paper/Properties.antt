@@ -27,7 +27,7 @@ use Rattle.lighting_outputs.specs.declared.Range.{Range}
 use Rattle.lighting_outputs.specs.declared.Range.TheVariants.{Percent, Limit, Amount, Whole, Priority, ReadOnly}
 use Rattle.lighting_outputs.specs.Paper.Answers.{Request}
 use Rattle.lighting_outputs.specs.declared.OutputRequest.TheVariants.{Change}
-use Rattle.lighting_outputs.specs.declared.Refusal.TheVariants.{NotWritable, BadPriority, RealOutOfRange, WholeOutOfRange}
+use Rattle.lighting_outputs.specs.declared.refusals.Refusal.TheVariants.{NotWritable, BadPriority, RealOutOfRange, WholeOutOfRange}
 
 -- THE TABLE: each property's number; 00 is none
 abbrev pub number_of : Property → ℕ

@@ -13,8 +13,8 @@ use Rattle.lighting_outputs.specs.declared.Property.TheVariants.{FadeTime}
 use Rattle.lighting_outputs.specs.declared.OperationFields.{OperationFields}
 use Rattle.lighting_outputs.specs.Paper.Answers.{Request}
 use Rattle.lighting_outputs.specs.declared.OutputRequest.TheVariants.{Write, Empty, Commands}
-use Rattle.lighting_outputs.specs.declared.Refusal.{Refusal}
-use Rattle.lighting_outputs.specs.declared.Refusal.TheVariants.{BadPriority, RealOutOfRange, WholeOutOfRange}
+use Rattle.lighting_outputs.specs.declared.refusals.Refusal.{Refusal}
+use Rattle.lighting_outputs.specs.declared.refusals.Refusal.TheVariants.{BadPriority, RealOutOfRange, WholeOutOfRange}
 
 -- COMMANDS. 'Checked in this order; fields left to right': the refusal that a field meets, none where it is
 -- in range or not there. 'REAL out of range' is 11, of a level and of a rate or step; 'Fade times: 100 to

@@ -53,7 +53,7 @@ use Rattle.lighting_frames.proofs.Tagging.Kept.{gives_back}
 use Rattle.lighting_panel.proofs.Demand.{demand_3}
 use Rattle.lighting_panel.proofs.Calls.{once}
 use Rattle.lighting_outputs.proofs.Consequences.Durations.{written_rest}
-use Rattle.lighting_outputs.specs.declared.Refusal.{Refusal}
+use Rattle.lighting_outputs.specs.declared.refusals.Refusal.{Refusal}
 
 -- A FRESH OUTPUT'S: 'last operation STOP without duration', which kind 10 with FFFFFFFF asks for
 stop : Bytes

@@ -19,7 +19,7 @@ use Rattle.lighting_panel.specs.Engine.Executing.{execute, frame_step}
 use Rattle.lighting_panel.specs.Engine.VerdictPrecondition.{VerdictPrecondition}
 use Rattle.lighting_levels.proofs.Split.{by_bool}
 use Rattle.lighting_panel.proofs.Carried.{sound_stations, decide_sure}
-use Rattle.lighting_outputs.specs.declared.Refusal.{Refusal}
+use Rattle.lighting_outputs.specs.declared.refusals.Refusal.{Refusal}
 
 -- NO FRAME CHANGES the marks, nor the set: whatever is lent
 record Keeps (before now : PanelRecord) : Type 0 where

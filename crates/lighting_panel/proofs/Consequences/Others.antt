@@ -33,7 +33,7 @@ use Rattle.lighting_levels.proofs.Split.{also_both, by_bool}
 use Rattle.lighting_panel.proofs.Carried.{sound_outputs}
 use Rattle.lighting_outputs.proofs.Rules.Tied.{tested_stays}
 use Rattle.lighting_panel.proofs.Table.{served_other}
-use Rattle.lighting_outputs.specs.declared.Refusal.{Refusal}
+use Rattle.lighting_outputs.specs.declared.refusals.Refusal.{Refusal}
 
 -- the output that a call is for
 abbrev Of : ℕ → Result Frame Refusal → Type 0

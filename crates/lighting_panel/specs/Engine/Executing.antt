@@ -11,7 +11,7 @@ use Rattle.lighting_frames.specs.declared.Verdict.{Verdict}
 use Rattle.lighting_frames.specs.declared.Verdict.TheVariants.{Copied, Clocked, Arrives}
 use Rattle.lighting_panel.specs.Paper.Panel.{Panel, Step, with_time, panel_sound}
 use Rattle.lighting_panel.specs.Engine.Judging.{padded, decide}
-use Rattle.lighting_outputs.specs.declared.Refusal.{Refusal}
+use Rattle.lighting_outputs.specs.declared.refusals.Refusal.{Refusal}
 use Rattle.lighting_outputs.specs.Paper.Answers.{refusal_number}
 
 -- CARRIED OUT: refusals 2 to 8 and copies leave everything; a clock brings every output to its time; a first

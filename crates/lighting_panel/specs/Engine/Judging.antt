@@ -14,8 +14,8 @@ use Rattle.lighting_frames.specs.declared.Verdict.{Verdict}
 use Rattle.lighting_frames.specs.declared.Verdict.TheVariants.{Clocked, Arrives}
 use Rattle.lighting_frames.specs.declared.Station.{Station}
 use Rattle.lighting_panel.specs.Paper.Panel.{Panel}
-use Rattle.lighting_outputs.specs.declared.Refusal.{Refusal}
-use Rattle.lighting_outputs.specs.declared.Refusal.TheVariants.{PastNumber, PastTime}
+use Rattle.lighting_outputs.specs.declared.refusals.Refusal.{Refusal}
+use Rattle.lighting_outputs.specs.declared.refusals.Refusal.TheVariants.{PastNumber, PastTime}
 
 -- A FRAME AS A STATION KEEPS IT, in the bytes of the longest, zeros after its own; and read back: 'of its
 -- kind's length'

@@ -9,7 +9,7 @@ use Rattle.lighting_outputs.specs.declared.Output.{Output}
 use Rattle.lighting_frames.specs.declared.Call.{Call}
 use Rattle.lighting_frames.specs.declared.Verdict.{Verdict}
 use Rattle.lighting_frames.specs.declared.Verdict.TheVariants.{Copied, Clocked, Arrives}
-use Rattle.lighting_outputs.specs.declared.Refusal.{Refusal}
+use Rattle.lighting_outputs.specs.declared.refusals.Refusal.{Refusal}
 
 -- while time stands the outputs stay as they are
 abbrev pub Standing : ℕ → List Output → Type 0

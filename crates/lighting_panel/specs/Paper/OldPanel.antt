@@ -20,9 +20,9 @@ use Rattle.lighting_outputs.specs.declared.Output.{Output}
 use Rattle.lighting_outputs.specs.declared.Answer.{Answer}
 use Rattle.lighting_outputs.specs.declared.Answer.TheVariants.{Done, Refused}
 use Rattle.lighting_frames.specs.declared.Verdict.{Verdict}
-use Rattle.lighting_outputs.specs.declared.Refusal.{Refusal}
+use Rattle.lighting_outputs.specs.declared.refusals.Refusal.{Refusal}
 use Rattle.lighting_outputs.specs.Paper.Answers.{refusal_number}
-use Rattle.lighting_outputs.specs.declared.Refusal.TheVariants.{BrokenRecords}
+use Rattle.lighting_outputs.specs.declared.refusals.Refusal.TheVariants.{BrokenRecords}
 
 -- 'beside it stand eight station records and the panel time'
 pub record OldPanel : Type 0 where

@@ -14,7 +14,7 @@ use Rattle.lighting_outputs.specs.declared.Answer.TheVariants.{Done, Refused}
 pub use Rattle.lighting_frames.specs.declared.Station.{Station}
 pub use Rattle.lighting_panel.specs.declared.PanelRecord.{PanelRecord}
 use Rattle.lighting_outputs.specs.Paper.Answers.{refusal_number}
-use Rattle.lighting_outputs.specs.declared.Refusal.TheVariants.{BrokenRecords, BadParameters}
+use Rattle.lighting_outputs.specs.declared.refusals.Refusal.TheVariants.{BrokenRecords, BadParameters}
 
 -- 'The outputs stand in a lent table [..]; beside it stand [..] station records and the panel time'. All that
 -- is lent beside the two tables stands in one record, `kept`: the time, the set of parameters, which 'are

@@ -15,9 +15,9 @@ use Rattle.lighting_frames.specs.declared.Frame.{Frame}
 use Rattle.lighting_frames.specs.declared.Frame.TheVariants.{Clock, Calls}
 use Rattle.lighting_frames.specs.declared.Verdict.{Verdict}
 use Rattle.lighting_frames.specs.declared.Verdict.TheVariants.{Copied, Clocked, Arrives}
-use Rattle.lighting_outputs.specs.declared.Refusal.{Refusal}
+use Rattle.lighting_outputs.specs.declared.refusals.Refusal.{Refusal}
 use Rattle.lighting_outputs.specs.Paper.Answers.{refusal_number}
-use Rattle.lighting_outputs.specs.declared.Refusal.TheVariants.{PastNumber, PastTime}
+use Rattle.lighting_outputs.specs.declared.refusals.Refusal.TheVariants.{PastNumber, PastTime}
 
 -- 'It has outputs and a time, no stations'
 pub record Plain : Type 0 where

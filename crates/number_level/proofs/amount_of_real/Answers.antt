@@ -1,4 +1,5 @@
 -- The product of x and 2^26 is a whole number n (proofs/Scaled.antt), and 1,024 of it are a unit.
+use Rattle.std.specs.Prelude.{Some}
 use mathlib.Core.Path.{◌≡◌, sym, ap, subst, ◌∙◌}
 use Prim.Native.Nat.{ℕ}
 use native.Mathlib.Omega.{arith}
@@ -6,7 +7,6 @@ use lib.Dec.{T}
 use lib.Ieee.{Float, of_bits, le, fits, binary32, binary64, mul, to_unsigned}
 use Rattle.std.proofs.Common.{true, rules}
 use Rattle.lighting_levels.specs.Paper.Level.{nearest_to}
-use Rattle.lighting_levels.specs.declared.Level.TheVariants.{Units}
 use Rattle.number_level.proofs.Scaled.{eighth, hundred, scale, Scaled, scaled, few_units, cast}
 use Rattle.number_level.proofs.Tested.{too_low_lem, too_high_lem}
 use Rattle.number_level.proofs.amount_of_real.Goals as goal
@@ -46,7 +46,7 @@ unfolding of_bits
 returns-then-x-2 c =
     let f : T (fits binary32 c.args.x) = search rules in
     let s = found c.args.x f c.if-x.true c.if-x-2.true in
-    ap Units (result_is c.args.x s c.from.result c.rounded.result c.from.ensures c.rounded.ensures) ∙ sym s.amount
+    ap Some (result_is c.args.x s c.from.result c.rounded.result c.from.ensures c.rounded.ensures) ∙ sym s.amount
 
 pub returns-else-x : goal.returns-else-x
 unfolding of_bits
