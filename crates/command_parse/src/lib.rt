@@ -2,13 +2,15 @@
 // field out of range meets.
 #![tactic(auto)]
 
-ghost use Rattle.std.specs.Prelude.{◌≡◌};
+ghost use Rattle.std.specs.Prelude.{Ok, ◌≡◌};
 ghost use Rattle.lighting_outputs.specs.Paper.Answers.{level_refusal};
 ghost use Rattle.lighting_outputs.specs.Paper.Requests.{level_field_refusal, amount_field_refusal, time_field_refusal, first_refusal, fields_refusal, command_lasting, command_with_duration, command_request_by, command_of, plain_duration, command_request};
 ghost use Rattle.lighting_frames.specs.Paper.Frames.{tagged_request};
 
 use lighting_frames::TaggedCommand;
-use lighting_outputs::{Command, Duration, Operation, OperationFields, OutputRequest, Parameters, Refusal, Request};
+use lighting_outputs::{
+    Command, Duration, Operation, OperationFields, OutputRequest, Parameters, Refusal, Request,
+};
 
 // ---- the ranges: the refusal that a field meets, if it is out of its range
 
@@ -79,7 +81,7 @@ pub fn fields_refusal(parameters: Parameters, f: OperationFields) -> Option<Refu
 // ---- the request
 
 fn commanded(operation: Operation, duration: Duration) -> Request
-    ensures { result ≡ Request.ToOutput (OutputRequest.Commands (record { operation = operation; duration = duration })) }
+    ensures { result ≡ Ok (OutputRequest.Commands (record { operation = operation; duration = duration })) }
 {
     Ok(OutputRequest::Commands(Command {
         operation,
@@ -148,11 +150,7 @@ pub fn command_of(parameters: Parameters, operation: Operation, duration: Option
 fn plain_duration(d: u32) -> Option<u32>
     ensures { result ≡ plain_duration d }
 {
-    if d == 0xFFFF_FFFF {
-        None
-    } else {
-        Some(d)
-    }
+    if d == 0xFFFF_FFFF { None } else { Some(d) }
 }
 
 #[tactic(auto, unfolding(lighting_outputs::specs::Paper::Requests::command_request))]
@@ -169,9 +167,11 @@ pub fn tagged_request(parameters: Parameters, reading: Result<TaggedCommand, Ref
 {
     match reading {
         Err(refusal) => Err(refusal),
-        Ok(TaggedCommand {
-            operation,
-            duration,
-        }) => command_of(parameters, operation, duration),
+        Ok(
+            TaggedCommand {
+                operation,
+                duration,
+            },
+        ) => command_of(parameters, operation, duration),
     }
 }

@@ -44,7 +44,13 @@ fn clock_of(b: &[u8]) -> Result<Frame, Refusal>
 
 // No byte, or an unknown kind, is refusal 2, and another length than l, which the kind fixes, is 3.
 #[tactic(auto, using(lighting_frames::proofs::Laws::parse_by_on, lighting_levels::proofs::Choosing::ifs), unfolding(lighting_frames::specs::Paper::Frames::parse_by))]
-fn parse_by(parameters: Parameters, c: usize, l: u32, kind: Kind, b: &[u8]) -> Result<Frame, Refusal>
+fn parse_by(
+    parameters: Parameters,
+    c: usize,
+    l: u32,
+    kind: Kind,
+    b: &[u8],
+) -> Result<Frame, Refusal>
     ensures { result ≡ parse_by parameters c l kind b.now }
 {
     match kind {

@@ -74,9 +74,7 @@ pub fn request_of(parameters: Parameters, action: Action, b: &[u8]) -> Request
         Action::WritesLevel => write_of(byte_at(b, 13), word32_at(b, 14)),
         Action::EmptiesSlot => empty_of(byte_at(b, 13)),
         Action::WritesProperty => change_of(parameters, byte_at(b, 13), word32_at(b, 14)),
-        Action::ReadsProperty => Ok(OutputRequest::Read(property_of(byte_at(
-            b, 13,
-        )))),
+        Action::ReadsProperty => Ok(OutputRequest::Read(property_of(byte_at(b, 13)))),
         Action::Stops => command_request(parameters, Operation::Stop, word32_at(b, 13)),
         Action::FadesTo => command_request(
             parameters,

@@ -70,11 +70,7 @@ pub fn amount_of_real(x: f32) -> Option<u32>
 fn limit_of_real(x: f32) -> Option<u32>
     ensures { result ≡ limit_of x }
 {
-    if x < 1.0 {
-        None
-    } else {
-        amount_of_real(x)
-    }
+    if x < 1.0 { None } else { amount_of_real(x) }
 }
 
 // A level: 0 and minus zero are 0; above 0 and below 1 it is 65,536; from 1 to 100 the nearest unit.

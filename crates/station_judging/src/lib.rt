@@ -71,7 +71,12 @@ pub fn station_of(f: Result<Frame, Refusal>) -> u8
 
 // What is to be done with the frame f of bytes b, whose station's record is k.
 #[tactic(auto, using(lighting_levels::proofs::Choosing::ifs, lighting_panel::proofs::Laws::judged_by_record_on), unfolding(lighting_panel::specs::Engine::Judging::judged_by_record, lighting_panel::specs::Engine::Judging::judged_by_station))]
-pub fn judge_by_station(at: u64, k: Station, b: &[u8], f: Result<Frame, Refusal>) -> Result<Verdict, Refusal>
+pub fn judge_by_station(
+    at: u64,
+    k: Station,
+    b: &[u8],
+    f: Result<Frame, Refusal>,
+) -> Result<Verdict, Refusal>
     ensures { result ≡ judged_by_station at k b.now f }
 {
     match f {
