@@ -46,7 +46,12 @@ pub fn panel_sound(outputs: &[Output], stations: &[Station], kept: PanelRecord) 
 
 // What is to be done with the bytes, by the record of the station that they name.
 #[tactic(auto, using(lighting_panel::proofs::Carried::octets, lighting_panel::proofs::Carried::station_found), unfolding(lighting_panel::specs::Engine::Judging::decide))]
-pub fn decide(outputs: &[Output], stations: &[Station], kept: PanelRecord, bytes: &[u8]) -> Result<Verdict, Refusal>
+pub fn decide(
+    outputs: &[Output],
+    stations: &[Station],
+    kept: PanelRecord,
+    bytes: &[u8],
+) -> Result<Verdict, Refusal>
     requires parameters_value { startable kept.parameters ≡ true }
     requires stations_len { length stations.now ≡ kept.parameters.stations }
     ensures { result ≡ decide (panel_of outputs.now stations.now kept) bytes.now }
