@@ -3,7 +3,7 @@
 // record at all: with a way, a rate or a length of 0 too.
 #![tactic(auto)]
 
-ghost use Rattle.std.specs.Prelude.{◌≡◌, ◌<◌, ◌-◌, max, eqb};
+ghost use Rattle.std.specs.Prelude.{◌≡◌, ◌<◌, eqb};
 ghost use Rattle.lighting_outputs.specs.Paper.Value.{present_value, in_process};
 ghost use Rattle.lighting_outputs.specs.Engine.Light.{last_short, moment_after, gone_at, count_before, count_since, lit_from_zero, lit_from_light, lit_at, lit_moving, lit_in_movement, lit_resting, lit_stretch};
 
@@ -12,25 +12,18 @@ use lighting_outputs::{Activity, Movement, Output, Pace};
 // ---- when so many units of a movement's way are gone. In milliseconds of the movement, which have 32 bits
 // once they are known to be at most its length (§4 of the change requests)
 
-// One less, and 0 of 0, in 32 bits.
-fn one_less(w: u32) -> u32
-    ensures { result ≡ w - 1 }
-{
-    if w == 0 { 0 } else { w - 1 }
-}
-
 // The last millisecond of a movement at which u units are not yet gone, where s units go in w milliseconds.
 // Of all s, as in a fade to 0, it is the last of the w; else, in a ramp, it takes a product, which has up to
 // 64 bits.
-#[tactic(auto, using(crate::proofs::Short::short_all, lighting_levels::proofs::Product::below), unfolding(lighting_outputs::specs::Engine::Light::last_short))]
+#[tactic(auto, unfolding(lighting_outputs::specs::Engine::Light::last_short))]
 fn last_short(u: u32, s: u32, w: u32) -> u64
     requires { 0 < s }
     ensures { result ≡ last_short u s w }
 {
     if u == s {
-        one_less(w) as u64
+        u64::from(w.saturating_sub(1))
     } else {
-        output_value::since(1, (u as u64) * (w as u64)) / (s as u64)
+        (u64::from(u) * u64::from(w)).saturating_sub(1) / u64::from(s)
     }
 }
 
@@ -40,7 +33,7 @@ fn moment_after(k: u32, m: Movement) -> Option<u64>
     ensures { result ≡ moment_after k m }
 {
     if k < m.length {
-        Some(output_value::since((m.length - (k + 1)) as u64, m.over))
+        Some(m.over.saturating_sub(u64::from(m.length - (k + 1))))
     } else {
         None
     }
@@ -54,7 +47,7 @@ fn first_gone_at(s: u32, w: u32, m: Movement) -> Option<u64>
     if s == 0 {
         None
     } else {
-        moment_after(one_less(w) / s, m)
+        moment_after(w.saturating_sub(1) / s, m)
     }
 }
 
@@ -67,7 +60,7 @@ fn gone_at(u: u32, s: u32, w: u32, m: Movement) -> Option<u64>
     if s == 0 {
         None
     } else {
-        moment_after(output_value::at_most(last_short(u, s, w), m.length), m)
+        moment_after(last_short(u, s, w).min(u64::from(m.length)) as u32, m)
     }
 }
 
@@ -78,20 +71,14 @@ fn gone_at(u: u32, s: u32, w: u32, m: Movement) -> Option<u64>
 fn count_before(from: u64, n: u64, d: Option<u64>) -> u64
     ensures { result ≡ count_before from n d }
 {
-    match d {
-        None => n,
-        Some(at) => output_value::least(n, output_value::since(from, at)),
-    }
+    d.map_or(n, |at| n.min(at.saturating_sub(from)))
 }
 
 #[tactic(auto, unfolding(lighting_outputs::specs::Engine::Light::count_since))]
 fn count_since(from: u64, n: u64, d: Option<u64>) -> u64
     ensures { result ≡ count_since from n d }
 {
-    match d {
-        None => 0,
-        Some(at) => output_value::since(output_value::since(from, at), n),
-    }
+    d.map_or(0, |at| n.saturating_sub(at.saturating_sub(from)))
 }
 
 #[tactic(auto, using(lighting_levels::proofs::Choosing::ifs), unfolding(lighting_outputs::specs::Engine::Light::lit_from_zero))]
@@ -128,24 +115,13 @@ fn lit_at(s: u32, w: u32, from: u64, n: u64, m: Movement) -> u64
     }
 }
 
-// From 0 or to 0 the way is the other end.
-fn way(m: Movement) -> u32
-    ensures { result ≡ max m.start m.target }
-{
-    if m.start < m.target {
-        m.target
-    } else {
-        m.start
-    }
-}
-
 #[tactic(auto, unfolding(lighting_outputs::specs::Engine::Light::lit_by_pace, lighting_outputs::specs::Engine::Light::lit_moving))]
 fn lit_moving(from: u64, n: u64, m: Movement) -> u64
     ensures { result ≡ lit_moving from n m }
 {
-    let p = m.pace;
-    match p {
-        Pace::Fade => lit_at(way(m), m.length, from, n, m),
+    match m.pace {
+        // From 0 or to 0 the way is the other end.
+        Pace::Fade => lit_at(m.start.max(m.target), m.length, from, n, m),
         Pace::Ramp(rate) => lit_at(rate, 1000, from, n, m),
     }
 }
@@ -155,8 +131,7 @@ fn lit_moving(from: u64, n: u64, m: Movement) -> u64
 pub fn is_moving(o: Output) -> bool
     ensures { result ≡ eqb (in_process o.activity) 1 }
 {
-    let a = o.activity;
-    output_value::in_process(a) == 1
+    output_value::in_process(o.activity) == 1
 }
 
 #[tactic(auto, unfolding(lighting_outputs::specs::Engine::Light::lit_in_movement))]
@@ -164,9 +139,8 @@ pub fn lit_in_movement(from: u64, n: u64, a: Activity) -> u64
     ensures { result ≡ lit_in_movement from n a }
 {
     match a {
-        Activity::Still => 0,
         Activity::Moving(m) => lit_moving(from, n, m),
-        Activity::Warned(_) => 0,
+        Activity::Still | Activity::Warned(_) => 0,
     }
 }
 
@@ -175,19 +149,19 @@ pub fn lit_in_movement(from: u64, n: u64, a: Activity) -> u64
 pub fn lit_resting(n: u64, o: Output) -> u64
     ensures { result ≡ lit_resting n (present_value o.settings o.slots) }
 {
-    let c = o.settings;
-    let s = o.slots;
-    let v = output_value::present_value(c, s);
-    if 0 < v { n } else { 0 }
+    if 0 < output_value::present_value(o.settings, o.slots) {
+        n
+    } else {
+        0
+    }
 }
 
 #[tactic(auto, using(lighting_levels::proofs::Choosing::ifs), unfolding(lighting_outputs::specs::Engine::Light::lit_stretch))]
 pub fn lit_stretch(from: u64, n: u64, o: Output) -> u64
     ensures { result ≡ lit_stretch from n o }
 {
-    let a = o.activity;
     if is_moving(o) {
-        lit_in_movement(from, n, a)
+        lit_in_movement(from, n, o.activity)
     } else {
         lit_resting(n, o)
     }

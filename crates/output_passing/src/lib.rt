@@ -2,7 +2,7 @@
 // millisecond by itself.
 #![tactic(auto)]
 
-ghost use Rattle.std.specs.Prelude.{◌≡◌, ◌+◌, ◌-◌, min};
+ghost use Rattle.std.specs.Prelude.{◌≡◌, ◌-◌};
 ghost use Rattle.lighting_outputs.specs.Engine.Advance.{sooner, due, burned_by, with_burned_saturating, fire_due, event_step, event_steps, advance, later};
 ghost use Rattle.lighting_outputs.specs.Engine.Light.{lit_in_movement, lit_resting};
 ghost use Rattle.lighting_levels.specs.Paper.Choice.{when◌then◌else◌};
@@ -10,24 +10,13 @@ ghost use Rattle.lighting_outputs.specs.Paper.Value.{present_value};
 
 use lighting_outputs::Output;
 
-// The sum, or the largest count where it does not fit.
-fn added(a: u64, b: u64) -> u64
-    ensures { result ≡ min (a + b) 18446744073709551615 }
-{
-    if b <= 18446744073709551615 - a {
-        a + b
-    } else {
-        18446744073709551615
-    }
-}
-
 // ---- burning time
 
 #[tactic(auto, unfolding(lighting_outputs::specs::Engine::Advance::burned_by))]
 fn burn(lit: u64, o: Output) -> Output
     ensures { result ≡ burned_by lit o }
 {
-    output_record::with_burning(o, added(o.burning, lit))
+    output_record::with_burning(o, o.burning.saturating_add(lit))
 }
 
 #[tactic(auto, unfolding(lighting_outputs::specs::Engine::Advance::with_burned_saturating))]
@@ -43,21 +32,16 @@ fn with_burned_saturating(from: u64, n: u64, o: Output) -> Output
 fn sooner(to: u64, d: Option<u64>) -> u64
     ensures { result ≡ sooner to d }
 {
-    match d {
-        None => to,
-        Some(at) => output_value::least(to, at),
-    }
+    d.map_or(to, |at| to.min(at))
 }
 
 #[tactic(auto, unfolding(lighting_outputs::specs::Engine::Advance::due))]
 fn next_due(to: u64, o: Output) -> u64
     ensures { result ≡ due to o }
 {
-    let m = o.timer;
-    let a = o.activity;
     sooner(
-        sooner(to, output_due::activity_due(a)),
-        output_due::timer_due(m),
+        sooner(to, output_due::activity_due(o.activity)),
+        output_due::timer_due(o.timer),
     )
 }
 
@@ -68,9 +52,7 @@ fn next_due(to: u64, o: Output) -> u64
 fn fire_due(d: u64, o: Output) -> Output
     ensures { result ≡ fire_due d o }
 {
-    let m = o.timer;
-    let a = o.activity;
-    if output_due::is_any_due(d, m, a) {
+    if output_due::is_any_due(d, o.timer, o.activity) {
         output_due::fire_at(d, o)
     } else {
         o
@@ -83,7 +65,7 @@ fn fire_due(d: u64, o: Output) -> Output
 fn stretch(now: u64, d: u64, fires: bool, o: Output) -> Output
     ensures { result ≡ (when fires then event_step now d o else event_steps 0 now d o) }
 {
-    let burned = with_burned_saturating(now, output_value::since(now, d), o);
+    let burned = with_burned_saturating(now, d.saturating_sub(now), o);
     if fires { fire_due(d, burned) } else { burned }
 }
 
@@ -115,28 +97,22 @@ pub fn three_event_steps(now: u64, to: u64, o: Output) -> Output
 pub fn is_later(to: u64, o: Output) -> bool
     ensures { result ≡ later to o }
 {
-    to < next_due(18446744073709551615, o)
+    to < next_due(u64::MAX, o)
 }
 
 // Of an output without a movement, and of one with it. Each is called in one place, so that the compiler puts
 // it there and copies no record.
-#[tactic(auto, unfolding(lighting_outputs::specs::Engine::Advance::burned_by))]
 pub fn rest(now: u64, to: u64, o: Output) -> Output
     ensures { result ≡ burned_by (lit_resting (to - now) (present_value o.settings o.slots)) o }
 {
-    burn(
-        output_light::lit_resting(output_value::since(now, to), o),
-        o,
-    )
+    burn(output_light::lit_resting(to.saturating_sub(now), o), o)
 }
 
-#[tactic(auto, unfolding(lighting_outputs::specs::Engine::Advance::burned_by))]
 pub fn move_on(now: u64, to: u64, o: Output) -> Output
     ensures { result ≡ burned_by (lit_in_movement now (to - now) o.activity) o }
 {
-    let a = o.activity;
     burn(
-        output_light::lit_in_movement(now, output_value::since(now, to), a),
+        output_light::lit_in_movement(now, to.saturating_sub(now), o.activity),
         o,
     )
 }
