@@ -9,39 +9,41 @@ use crate::Answer;
 #[derive(Clone, Copy)]
 pub enum Refusal {
     // the lent records are not as many as the set has, or break a rule
-    BrokenRecords = 1,
+    BrokenRecords,
     // no byte, or an unknown kind
-    UnknownKind = 2,
+    UnknownKind,
     // another length than the kind's
-    WrongLength = 3,
+    WrongLength,
     // a station that the set has not, or number 0
-    UnknownStation = 4,
+    UnknownStation,
     // an output that is not in the table
-    UnknownOutput = 5,
+    UnknownOutput,
     // the station's last number with other bytes
-    OtherBytes = 6,
+    OtherBytes,
     // a number below the station's last
-    PastNumber = 7,
+    PastNumber,
     // a time before panel time
-    PastTime = 8,
+    PastTime,
     // a property that is unknown, or not writable
-    NotWritable = 9,
+    NotWritable,
     // priority 0, 6 or over 16
-    BadPriority = 10,
+    BadPriority,
     // a REAL out of range
-    RealOutOfRange = 11,
+    RealOutOfRange,
     // a whole number out of range
-    WholeOutOfRange = 12,
+    WholeOutOfRange,
     // Min over Max
-    MinOverMax = 13,
+    MinOverMax,
     // a length, tag, tag order, tag length or padding that is wrong, or an operation above 10
-    BadTags = 14,
+    BadTags,
     // a field in tags that is missing, foreign, or not in the fewest octets
-    BadFields = 15,
+    BadFields,
     // the relay's inactive value not below its active one
-    RelayNotInOrder = 16,
+    RelayNotInOrder,
     // a start with a parameter out of range
-    BadParameters = 17,
+    BadParameters,
+    // a number that the papers do not have
+    Other(u8),
 }
 
 impl Refusal {
@@ -49,7 +51,26 @@ impl Refusal {
     pub fn number(self) -> u8
         ensures { result ≡ refusal_number self }
     {
-        self as u8
+        match self {
+            Refusal::BrokenRecords => 1,
+            Refusal::UnknownKind => 2,
+            Refusal::WrongLength => 3,
+            Refusal::UnknownStation => 4,
+            Refusal::UnknownOutput => 5,
+            Refusal::OtherBytes => 6,
+            Refusal::PastNumber => 7,
+            Refusal::PastTime => 8,
+            Refusal::NotWritable => 9,
+            Refusal::BadPriority => 10,
+            Refusal::RealOutOfRange => 11,
+            Refusal::WholeOutOfRange => 12,
+            Refusal::MinOverMax => 13,
+            Refusal::BadTags => 14,
+            Refusal::BadFields => 15,
+            Refusal::RelayNotInOrder => 16,
+            Refusal::BadParameters => 17,
+            Refusal::Other(number) => number,
+        }
     }
 }
 

@@ -30,7 +30,6 @@ Fit (Some refusal) = 9 ≤ refusal_number refusal
 Fit None = Unit {0}
 
 level_fit : (x : Option ℕ) → Fit (level_refusal x)
-
 level_fit (Some v) = tt
 level_fit None = omega arith
 

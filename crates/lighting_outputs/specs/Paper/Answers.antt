@@ -6,7 +6,7 @@ use Rattle.lighting_outputs.specs.declared.Answer.{Answer}
 use Rattle.lighting_outputs.specs.declared.Answer.TheVariants.{Done, Value, Absent, Refused}
 use Rattle.lighting_outputs.specs.declared.OutputRequest.{OutputRequest}
 use Rattle.lighting_outputs.specs.declared.refusals.Refusal.{Refusal}
-use Rattle.lighting_outputs.specs.declared.refusals.Refusal.TheVariants.{BrokenRecords, UnknownKind, WrongLength, UnknownStation, UnknownOutput, OtherBytes, PastNumber, PastTime, NotWritable, BadPriority, RealOutOfRange, WholeOutOfRange, MinOverMax, BadTags, BadFields, RelayNotInOrder, BadParameters}
+use Rattle.lighting_outputs.specs.declared.refusals.Refusal.TheVariants.{BrokenRecords, UnknownKind, WrongLength, UnknownStation, UnknownOutput, OtherBytes, PastNumber, PastTime, NotWritable, BadPriority, RealOutOfRange, WholeOutOfRange, MinOverMax, BadTags, BadFields, RelayNotInOrder, BadParameters, Other}
 
 -- THE NUMBER AND THE VALUES OF EVERY ANSWER, as the bytes by which a bus log writes it down: 80 Done; 81
 -- Value, its 32 bits; 82 Absent; 83 Refused, its number. No two answers have the same
@@ -24,7 +24,8 @@ value_of (Value v) = Some v
 value_of Absent = None
 value_of (Refused n) = None
 
--- THE NUMBER OF EVERY REFUSAL, as the table of refusals and the change requests have it
+-- THE NUMBER OF EVERY REFUSAL, as the table of refusals and the change requests have it; any other number has
+-- a refusal too
 abbrev pub refusal_number : Refusal → ℕ
 refusal_number BrokenRecords = 1
 refusal_number UnknownKind = 2
@@ -43,6 +44,7 @@ refusal_number BadTags = 14
 refusal_number BadFields = 15
 refusal_number RelayNotInOrder = 16
 refusal_number BadParameters = 17
+refusal_number (Other number) = number
 
 -- what a frame asks of its output, or the refusal that its fields meet
 abbrev pub Request : Type 0
