@@ -31,10 +31,10 @@ use Rattle.lighting_outputs.specs.declared.Pace.{Pace}
 use Rattle.lighting_outputs.specs.declared.Phase.{Phase}
 use Rattle.lighting_outputs.specs.declared.Property.{Property}
 use Rattle.lighting_outputs.specs.declared.Range.{Range}
-use Rattle.lighting_outputs.specs.declared.refusals.Refusal.{Refusal}
 use Rattle.lighting_outputs.specs.declared.Settings.{Settings}
 use Rattle.lighting_outputs.specs.declared.Timer.{Timer}
 use Rattle.lighting_outputs.specs.declared.Warning.{Warning}
+use Rattle.lighting_outputs.specs.declared.refusals.Refusal.{Refusal}
 use Rattle.std.specs.Prelude.{Float, Option}
 use mathlib.Core.Bool.{Bool}
 use mathlib.Core.List.{List}
