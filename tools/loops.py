@@ -1,7 +1,8 @@
 #!/usr/bin/env python3
 """loops.py: no loop over milliseconds, and no recursion, in the code of the panel. A contract is an equation and says nothing of time, so this is looked
 for in the source: every loop of crates/*/src must stand in tools/loops.txt, a line a loop, with its head as it stands in the source and what it goes
-over; a listed function may gain no other, and no head may change unseen. No function may call itself, directly or by way of others. Exit status 1 where that fails."""
+over; a listed function may gain no other, and no head may change unseen. A chain of an iterator is a loop, and so is a method of a slice or an array
+that goes over all of it; of an Option's `map` and its like the list says so. No function may call itself, directly or by way of others. Exit status 1 where that fails."""
 import glob
 import re
 import sys
@@ -13,15 +14,26 @@ for line in open('tools/loops.txt'):
         name, head, _ = [part.strip() for part in line.split('|')]
         known.setdefault(name, []).append(head)
 
-bodies, loops = {}, {}
+# loops by a keyword, and the methods that go over what they are called on, with that
+LOOPS = re.compile(r'\b((?:while|loop)\b[^;]*?|for\b[^;{]*?\bin\b[^;]*?)\{')
+METHODS = re.compile(r'((?:\w+(?:::\w+)*(?:\[[^\]]*\])?(?:\([^()]*\))?|\([^()]*\))(?:\s*\.\w+(?:\([^()]*\))?)*?\s*\.(?:all|any|fold|try_fold|map|and_then|filter|for_each|sum|product|count|position|find|fill|copy_from_slice|copy_within|rotate_left|reverse|starts_with|ends_with|contains|zip|collect|min_by_key|max_by_key|rev|sort_unstable))\(')
+bodies, loops, brought = {}, {}, {}
 for path in sorted(glob.glob('crates/*/src/*.rt')):
     crate = path.split('/')[1]
     text = re.sub(r'//.*', '', open(path).read())
+    # which crate a name comes from that the file brings in
+    names = {}
+    for source, rest in re.findall(r'^use (\w+)::([^;]*);', text, re.M):
+        for name in re.findall(r'(\w+)(?=\s*[,}]|$)', rest):
+            names[name] = source
     starts = [(m.start(), m.group(1)) for m in re.finditer(r'\bfn (\w+)\s*(?:<[^()]*>)?\s*\(', text)]
     for (at, name), (end, _) in zip(starts, starts[1:] + [(len(text), '')]):
         body = text[text.index('{\n', at):end] if '{\n' in text[at:end] else ''
         bodies['%s::%s' % (crate, name)] = body
-        heads = [' '.join(head.split()) for head in re.findall(r'\b((?:while|loop|for)\b[^;]*?)\{', body)]
+        brought['%s::%s' % (crate, name)] = names
+        found = [(m.start(), m.group(1)) for m in LOOPS.finditer(body)]
+        found += [(m.start(), m.group(1)) for m in METHODS.finditer(body) if not any(at_ <= m.start() < at_ + len(h) for at_, h in found)]
+        heads = [' '.join(head.split()).replace(' .', '.') for _, head in sorted(found)]
         if heads:
             loops['%s::%s' % (crate, name)] = heads
 
@@ -37,7 +49,8 @@ calls = {}
 for name, body in bodies.items():
     calls[name] = set()
     for path, function in re.findall(r'\b((?:\w+::)*)(\w+)\s*\(', body):
-        first = path.split('::')[0]
+        first = path.split('::')[0] or function
+        first = brought[name].get(first, first)
         called = '%s::%s' % (first if first in crates else name.split('::')[0], function)
         if called in bodies:
             calls[name].add(called)

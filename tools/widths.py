@@ -28,14 +28,15 @@ for path in sorted(glob.glob('crates/*/src/*.rt')):
     source += text
     starts = [m.start() for m in re.finditer(r'\bfn \w+\s*\(', text)]
     for at, end in zip(starts, starts[1:] + [len(text)]):
-        head = re.match(r'fn (\w+)\s*\((.*?)\)(?:\s*->\s*(\w+))?\s', text[at:end], re.S)
+        head = re.match(r'fn (\w+)\s*\((.*?)\)(?:\s*->\s*(\w+(?:<\w+>)?))?\s', text[at:end], re.S)
         if head:
             taken = [part.split(':')[1].strip() for part in head.group(2).split(',') if ':' in part]
             types = '%s -> %s' % (', '.join(taken), head.group(3))
             body = text[text.index('{\n', at):end] if '{\n' in text[at:end] else ''
-            # what stands before `as u64` (a name, a field, a call, or something in brackets), the moment of a
-            # record, and a variable that is said to be wide
+            # what stands before `as u64` (a name, a field, a call, or something in brackets), what is widened by
+            # `u64::from`, the moment of a record, and a variable that is said to be wide
             widened = re.findall(r'((?:[\w.]+(?:\([^()]*\))?|\([^()]*(?:\([^()]*\)[^()]*)*\)))\s+as u64', body)
+            widened += re.findall(r'u64::from\(((?:[^()]|\([^()]*(?:\([^()]*\))?[^()]*\))*)\)', body)
             widened += re.findall(r'\w+\.over\b', body) + re.findall(r'let (?:mut )?(\w+)\s*:\s*u64', body)
             widened = sorted(re.sub(r'\s+', '', part) for part in widened)
             functions['%s::%s' % (crate, head.group(1))] = (types, ', '.join(widened) or 'none', body)
