@@ -1,11 +1,13 @@
 // The table of kinds: the kind byte fixes the length, and says whether a frame is a call and what it asks.
 #![tactic(auto)]
 
-ghost use Rattle.std.specs.Prelude.{◌≡◌};
+ghost use Rattle.std.specs.Prelude.{◌≡◌, ◌<◌, ◌≤◌};
 ghost use Rattle.lighting_frames.specs.Paper.Kinds.{call_row, kind_row, kind_length, is_call};
 
 use lighting_frames::{Action, Kind, KindRow};
 
+// The length is in bytes, and the row of an unknown kind has the length 0.
+// Stays: no Option, since a length is asked of every byte (`kind_length`), also by the theorem `two`.
 fn call_row(length: u32, action: Action) -> KindRow
     ensures { result ≡ call_row length action }
 {
@@ -15,10 +17,10 @@ fn call_row(length: u32, action: Action) -> KindRow
     }
 }
 
-// The row of a kind byte: its length, from which the length test follows, and its kind, from which the action
-// follows. 01 is the clock, 10 to 1A are the commands, and 1B is a command in tags.
+// The clock, 01, and the kinds 02 to 05.
 #[tactic(auto, using(crate::proofs::Table::table))]
-pub fn kind_row(k: u8) -> KindRow
+fn plain_row(k: u8) -> KindRow
+    requires { k < 6 }
     ensures { result ≡ kind_row k }
 {
     match k {
@@ -30,6 +32,20 @@ pub fn kind_row(k: u8) -> KindRow
         0x03 => call_row(14, Action::EmptiesSlot),
         0x04 => call_row(18, Action::WritesProperty),
         0x05 => call_row(14, Action::ReadsProperty),
+        _ => KindRow {
+            length: 0,
+            kind: Kind::NoKind,
+        },
+    }
+}
+
+// The commands, 10 to 1A, and 1B, a command in tags.
+#[tactic(auto, using(crate::proofs::Table::table))]
+fn command_row(k: u8) -> KindRow
+    requires { 0x10 ≤ k }
+    ensures { result ≡ kind_row k }
+{
+    match k {
         0x10 => call_row(17, Action::Stops),
         0x11 => call_row(21, Action::FadesTo),
         0x12 => call_row(25, Action::FadesToOver),
@@ -42,6 +58,23 @@ pub fn kind_row(k: u8) -> KindRow
         0x19 => call_row(21, Action::GoesTo),
         0x1A => call_row(17, Action::Relinquishes),
         0x1B => call_row(31, Action::CommandsTagged),
+        _ => KindRow {
+            length: 0,
+            kind: Kind::NoKind,
+        },
+    }
+}
+
+// The row of a kind byte: its length, from which the length test follows, and its kind, from which the action
+// follows.
+// Stays: a match with ranges, by two tables, as the paper names it (docs/PROMISES.md, 'Language forms by place').
+#[tactic(auto, using(crate::proofs::Table::table))]
+pub fn kind_row(k: u8) -> KindRow
+    ensures { result ≡ kind_row k }
+{
+    match k {
+        0x01..=0x05 => plain_row(k),
+        0x10..=0x1B => command_row(k),
         _ => KindRow {
             length: 0,
             kind: Kind::NoKind,
