@@ -14,22 +14,13 @@ use lighting_outputs::{
 
 // ---- the ranges: the refusal that a field meets, if it is out of its range
 
-fn level_refusal(level: Option<u32>) -> Option<Refusal>
-    ensures { result ≡ level_refusal level }
-{
-    match level {
-        Some(_) => None,
-        None => Some(Refusal::RealOutOfRange),
-    }
-}
-
 #[tactic(auto, unfolding(lighting_outputs::specs::Paper::Requests::level_field_refusal))]
 fn level_field_refusal(x: Option<f32>) -> Option<Refusal>
     ensures { result ≡ level_field_refusal x }
 {
     match x {
-        Some(real) => level_refusal(number_level::level_of_real(real)),
-        None => None,
+        Some(real) if number_level::level_of_real(real).is_none() => Some(Refusal::RealOutOfRange),
+        _ => None,
     }
 }
 
@@ -39,8 +30,8 @@ fn amount_field_refusal(x: Option<f32>) -> Option<Refusal>
     ensures { result ≡ amount_field_refusal x }
 {
     match x {
-        Some(real) => level_refusal(number_level::amount_of_real(real)),
-        None => None,
+        Some(real) if number_level::amount_of_real(real).is_none() => Some(Refusal::RealOutOfRange),
+        _ => None,
     }
 }
 
@@ -54,28 +45,15 @@ fn time_field_refusal(parameters: Parameters, x: Option<u32>) -> Option<Refusal>
     }
 }
 
-#[tactic(auto, unfolding(lighting_outputs::specs::Paper::Requests::first_refusal))]
-fn first_refusal(earlier: Option<Refusal>, later: Option<Refusal>) -> Option<Refusal>
-    ensures { result ≡ first_refusal earlier later }
-{
-    earlier.or(later)
-}
-
 // Fields are judged from left to right.
-#[tactic(auto, unfolding(lighting_outputs::specs::Paper::Requests::fields_refusal))]
+#[tactic(auto, using(crate::proofs::First::from_left))]
 pub fn fields_refusal(parameters: Parameters, f: OperationFields) -> Option<Refusal>
     ensures { result ≡ fields_refusal parameters f }
 {
-    first_refusal(
-        level_field_refusal(f.level),
-        first_refusal(
-            amount_field_refusal(f.rate),
-            first_refusal(
-                amount_field_refusal(f.step),
-                time_field_refusal(parameters, f.fade),
-            ),
-        ),
-    )
+    level_field_refusal(f.level)
+        .or(amount_field_refusal(f.rate))
+        .or(amount_field_refusal(f.step))
+        .or(time_field_refusal(parameters, f.fade))
 }
 
 // ---- the request
@@ -117,32 +95,15 @@ fn command_with_duration(
     }
 }
 
-#[tactic(auto, using(lighting_levels::proofs::Choosing::ifs), unfolding(lighting_outputs::specs::Paper::Requests::command_request_by))]
-fn command_request_by(
-    parameters: Parameters,
-    refusal: Option<Refusal>,
-    operation: Operation,
-    duration: Option<u32>,
-) -> Request
-    ensures { result ≡ command_request_by parameters refusal operation duration }
-{
-    match refusal {
-        Some(refusal) => Err(refusal),
-        None => command_with_duration(parameters, operation, duration),
-    }
-}
-
 // In whatever form a command came, the duration comes after the operation's own fields.
-#[tactic(auto, unfolding(lighting_outputs::specs::Paper::Requests::command_of))]
+#[tactic(auto, unfolding(lighting_outputs::specs::Paper::Requests::command_of, lighting_outputs::specs::Paper::Requests::command_request_by))]
 pub fn command_of(parameters: Parameters, operation: Operation, duration: Option<u32>) -> Request
     ensures { result ≡ command_of parameters operation duration }
 {
-    command_request_by(
-        parameters,
-        fields_refusal(parameters, command_operations::fields_of(operation)),
-        operation,
-        duration,
-    )
+    match fields_refusal(parameters, command_operations::fields_of(operation)) {
+        Some(refusal) => Err(refusal),
+        None => command_with_duration(parameters, operation, duration),
+    }
 }
 
 // The kinds 10 to 1A: FFFFFFFF means absent.
@@ -165,13 +126,9 @@ pub fn command_request(parameters: Parameters, operation: Operation, d: u32) -> 
 pub fn tagged_request(parameters: Parameters, reading: Result<TaggedCommand, Refusal>) -> Request
     ensures { result ≡ tagged_request parameters reading }
 {
-    match reading {
-        Err(refusal) => Err(refusal),
-        Ok(
-            TaggedCommand {
-                operation,
-                duration,
-            },
-        ) => command_of(parameters, operation, duration),
-    }
+    let TaggedCommand {
+        operation,
+        duration,
+    } = reading?;
+    command_of(parameters, operation, duration)
 }

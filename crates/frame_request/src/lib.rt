@@ -22,10 +22,8 @@ use property_write::values::slot_of;
 fn write_level(i: u8, v: Option<u32>) -> Request
     ensures { result ≡ write_level i v }
 {
-    match v {
-        Some(level) => Ok(OutputRequest::Write { slot: i, level }),
-        None => Err(Refusal::RealOutOfRange),
-    }
+    let level = v.ok_or(Refusal::RealOutOfRange)?;
+    Ok(OutputRequest::Write { slot: i, level })
 }
 
 #[tactic(auto, using(lighting_levels::proofs::Choosing::ifs), unfolding(lighting_outputs::specs::Paper::Requests::write_of))]

@@ -74,20 +74,14 @@ fn real_answer(x: f32) -> Answer
 fn real_field_answer(x: Option<f32>) -> Answer
     ensures { result ≡ real_field_answer x }
 {
-    match x {
-        Some(real) => real_answer(real),
-        None => Answer::Absent,
-    }
+    x.map_or(Answer::Absent, |real| real_answer(real))
 }
 
 #[tactic(auto, unfolding(lighting_outputs::specs::Paper::Properties::time_field_answer))]
 fn time_field_answer(x: Option<u32>) -> Answer
     ensures { result ≡ time_field_answer x }
 {
-    match x {
-        Some(l) => Answer::Value(l),
-        None => Answer::Absent,
-    }
+    x.map_or(Answer::Absent, |time| Answer::Value(time))
 }
 
 #[tactic(auto, unfolding(lighting_outputs::specs::Paper::Properties::last_duration))]

@@ -72,7 +72,7 @@ fn activity_with(a: Activity, n: Property) -> Activity
 }
 
 // 0B written clears the burning time.
-#[tactic(auto, using(lighting_levels::proofs::Choosing::ifs), unfolding(lighting_outputs::specs::Paper::Properties::burning_with))]
+#[tactic(auto, unfolding(lighting_outputs::specs::Paper::Properties::burning_with))]
 fn burning_with(b: u64, n: Property) -> u64
     ensures { result ≡ burning_with b n }
 {

@@ -17,10 +17,7 @@ fn kept(n: Property, value: u32) -> Request
 fn change_to(n: Property, v: Option<u32>) -> Request
     ensures { result ≡ change_to n v }
 {
-    match v {
-        Some(value) => kept(n, value),
-        None => Err(Refusal::RealOutOfRange),
-    }
+    kept(n, v.ok_or(Refusal::RealOutOfRange)?)
 }
 
 #[tactic(auto, using(crate::proofs::Priorities::priority_range, lighting_levels::proofs::Choosing::ifs, lighting_outputs::proofs::Laws::change_by_on), unfolding(lighting_outputs::specs::Paper::Properties::change_by))]

@@ -64,8 +64,8 @@ pub fn station_of(f: Result<Frame, Refusal>) -> u8
     ensures { result ≡ station_of f }
 {
     match f {
-        Err(_) | Ok(Frame::Clock(_)) => 0,
         Ok(Frame::Calls(call)) => call.station,
+        Ok(Frame::Clock(_)) | Err(_) => 0,
     }
 }
 
@@ -79,10 +79,9 @@ pub fn judge_by_station(
 ) -> Result<Verdict, Refusal>
     ensures { result ≡ judged_by_station at k b.now f }
 {
-    match f {
-        Err(r) => Err(r),
-        Ok(Frame::Clock(t)) if t < at => Err(Refusal::PastTime),
-        Ok(Frame::Clock(t)) => Ok(Verdict::Clocked(t)),
-        Ok(Frame::Calls(call)) => judge_by_number(at, k, b, call),
+    match f? {
+        Frame::Clock(t) if t < at => Err(Refusal::PastTime),
+        Frame::Clock(t) => Ok(Verdict::Clocked(t)),
+        Frame::Calls(call) => judge_by_number(at, k, b, call),
     }
 }

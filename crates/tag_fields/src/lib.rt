@@ -40,26 +40,20 @@ pub fn fewest_octets(v: u32) -> u8
 fn real_tag(x: Option<f32>) -> Option<TagContent>
     ensures { result ≡ real_tag x }
 {
-    match x {
-        Some(real) => Some(TagContent {
-            count: 4,
-            value: number_level::bits_of(real),
-        }),
-        None => None,
-    }
+    x.map(|real| TagContent {
+        count: 4,
+        value: number_level::bits_of(real),
+    })
 }
 
 #[tactic(auto, unfolding(lighting_frames::specs::Paper::Tags::whole_tag))]
 fn whole_tag(x: Option<u32>) -> Option<TagContent>
     ensures { result ≡ whole_tag x }
 {
-    match x {
-        Some(v) => Some(TagContent {
-            count: fewest_octets(v),
-            value: v,
-        }),
-        None => None,
-    }
+    x.map(|value| TagContent {
+        count: fewest_octets(value),
+        value,
+    })
 }
 
 // How many bytes a field takes: its tag and its content.
@@ -67,20 +61,14 @@ fn whole_tag(x: Option<u32>) -> Option<TagContent>
 pub fn field_size(field: Option<TagContent>) -> usize
     ensures { (result ≡ field_size field) × (result ≤ 256) }
 {
-    match field {
-        Some(TagContent { count, .. }) => 1 + usize::from(count),
-        None => 0,
-    }
+    field.map_or(0, |content| 1 + usize::from(content.count))
 }
 
 #[tactic(auto, unfolding(lighting_frames::specs::Paper::Tags::held_by))]
 pub fn held_by(field: Option<TagContent>) -> u32
     ensures { result ≡ held_by field }
 {
-    match field {
-        Some(TagContent { value, .. }) => value,
-        None => 0,
-    }
+    field.map_or(0, |content| content.value)
 }
 
 // ---- the fields of a command

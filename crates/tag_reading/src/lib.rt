@@ -37,10 +37,7 @@ fn zero_beyond(body: &[u8]) -> bool
 fn holds_at_most(most: u32, field: Option<TagContent>) -> bool
     ensures { result ≡ holds_at_most most field }
 {
-    match field {
-        Some(TagContent { value, .. }) => value <= most,
-        None => true,
-    }
+    field.is_none_or(|content| content.value <= most)
 }
 
 // The fields, read once, come with the body. If they do not use up the L bytes, something between them is no
@@ -90,10 +87,7 @@ fn operation_of(f: TagFields) -> Operation
 fn time_of(field: Option<TagContent>) -> Option<u32>
     ensures { result ≡ time_of field }
 {
-    match field {
-        Some(TagContent { value, .. }) => Some(value),
-        None => None,
-    }
+    field.map(|content| content.value)
 }
 
 // ---- refusal 15
@@ -102,20 +96,14 @@ fn time_of(field: Option<TagContent>) -> Option<u32>
 fn both_or_neither(own: Option<TagContent>, field: Option<TagContent>) -> bool
     ensures { result ≡ both_or_neither own field }
 {
-    matches!(
-        (own, field),
-        (Some(TagContent { .. }), Some(TagContent { .. })) | (None, None)
-    )
+    own.is_some() == field.is_some()
 }
 
 #[tactic(auto, unfolding(lighting_frames::specs::Paper::Tags::fewest))]
 fn is_fewest(field: Option<TagContent>) -> bool
     ensures { result ≡ fewest field }
 {
-    match field {
-        Some(TagContent { count, value }) => count == tag_fields::fewest_octets(value),
-        None => true,
-    }
+    field.is_none_or(|content| content.count == tag_fields::fewest_octets(content.value))
 }
 
 // `own` are the fields that the operation has.
