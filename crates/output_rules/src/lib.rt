@@ -52,6 +52,8 @@ fn settings_sound(parameters: Parameters, c: Settings) -> bool
 
 // A live slot holds a level. The loop takes the lowest live slot away until none is left, over a copy of the
 // levels alone.
+// Stays: a loop over the mask (the new form is no plainer: `all` over the sixteen slots would ask each of them
+// whether it is live, where the loop goes over the live ones, and the library has no iterator over set bits).
 #[tactic(auto, using(crate::proofs::LiveSlots::low_broken, crate::proofs::LiveSlots::low_within, crate::proofs::LiveSlots::none_live))]
 fn live_sound(s: Slots) -> bool
     ensures { result ≡ slots_sound s }
@@ -97,17 +99,21 @@ fn activity_sound(parameters: Parameters, t: u64, high: u32, s: Slots, v: u32, a
 
 // The rules on the slots come last: a test of levels copies them, and what was read before such a copy would
 // be kept on the stack beside it.
+// Stays: `s` for the slots, which three calls take (tried and too slow: `o.slots` in each of them copies them
+// three times, 13 instructions more for each output of a frame).
 #[tactic(auto, using(crate::proofs::Order::in_order, crate::proofs::Order::settings_first, lighting_levels::proofs::Choosing::ifs))]
 pub fn is_sound(parameters: Parameters, t: u64, o: Output) -> bool
     ensures { result ≡ sound parameters t o }
 {
-    if !settings_sound(parameters, o.settings) {
+    let c = o.settings;
+    let s = o.slots;
+    if !settings_sound(parameters, c) {
         return false;
     }
-    let v = output_value::present_value(o.settings, o.slots);
+    let v = output_value::present_value(c, s);
     output_relay::relay_sound(v, o.relay)
         && o.burning <= t
         && output_activity_rules::timer_sound(t, o.timer)
-        && activity_sound(parameters, t, o.settings.max, o.slots, v, o.activity)
-        && slots_sound(o.slots)
+        && activity_sound(parameters, t, c.max, s, v, o.activity)
+        && slots_sound(s)
 }
