@@ -15,10 +15,7 @@ use lighting_outputs::{Activity, Output, Phase, SLOT_6, Slots, Timer, Warning};
 pub fn timer_due(m: Option<Timer>) -> Option<u64>
     ensures { result ≡ timer_due m }
 {
-    match m {
-        None => None,
-        Some(Timer { slot: _, due }) => Some(due),
-    }
+    m.map(|timer| timer.due)
 }
 
 #[tactic(auto, unfolding(lighting_outputs::specs::Paper::Passing::phase_end))]
@@ -38,10 +35,7 @@ pub fn activity_due(a: Activity) -> Option<u64>
     match a {
         Activity::Still => None,
         Activity::Moving(m) => Some(m.over),
-        Activity::Warned(w) => {
-            let p = w.phase;
-            Some(phase_end(w, p))
-        },
+        Activity::Warned(w) => Some(phase_end(w, w.phase)),
     }
 }
 
@@ -49,10 +43,7 @@ pub fn activity_due(a: Activity) -> Option<u64>
 fn is_due(t: u64, d: Option<u64>) -> bool
     ensures { result ≡ is_due t d }
 {
-    match d {
-        None => false,
-        Some(at) => at == t,
-    }
+    d == Some(t)
 }
 
 fn is_timer_due(t: u64, m: Option<Timer>) -> bool
@@ -72,11 +63,7 @@ fn is_activity_due(t: u64, a: Activity) -> bool
 pub fn is_any_due(t: u64, m: Option<Timer>, a: Activity) -> bool
     ensures { result ≡ any_due t (timer_due m ∷ activity_due a ∷ []) }
 {
-    if is_timer_due(t, m) {
-        true
-    } else {
-        is_activity_due(t, a)
-    }
+    is_timer_due(t, m) || is_activity_due(t, a)
 }
 
 // ---- a duration
@@ -92,10 +79,7 @@ fn timer_at(t: u64, m: Option<Timer>) -> Option<Timer>
 fn empty_by(m: Option<Timer>, s: Slots) -> Slots
     ensures { result ≡ emptied_by m s }
 {
-    match m {
-        None => s,
-        Some(Timer { slot, due: _ }) => output_slots::empty(s, slot),
-    }
+    m.map_or(s, |timer| output_slots::empty(s, timer.slot))
 }
 
 #[tactic(auto, using(lighting_levels::proofs::Choosing::ifs), unfolding(lighting_outputs::specs::Paper::Passing::expired))]
@@ -115,9 +99,8 @@ pub fn end_movement_of(q: u8, a: Activity) -> Activity
     ensures { result ≡ end_movement_of q a }
 {
     match a {
-        Activity::Still => a,
-        Activity::Moving(m) => if m.owner == q { Activity::Still } else { a },
-        Activity::Warned(_) => a,
+        Activity::Moving(m) if m.owner == q => Activity::Still,
+        Activity::Still | Activity::Moving(_) | Activity::Warned(_) => a,
     }
 }
 
@@ -125,10 +108,7 @@ pub fn end_movement_of(q: u8, a: Activity) -> Activity
 fn end_movement_by(m: Option<Timer>, a: Activity) -> Activity
     ensures { result ≡ end_movement_by m a }
 {
-    match m {
-        None => a,
-        Some(Timer { slot, due: _ }) => end_movement_of(slot, a),
-    }
+    m.map_or(a, |timer| end_movement_of(timer.slot, a))
 }
 
 #[tactic(auto, using(lighting_levels::proofs::Choosing::ifs), unfolding(lighting_outputs::specs::Paper::Passing::end_movement_on_expiry))]
@@ -150,10 +130,7 @@ fn delay(w: Warning) -> Warning
 {
     Warning {
         phase: Phase::Delay,
-        owner: w.owner,
-        level: w.level,
-        turn: w.turn,
-        over: w.over,
+        ..w
     }
 }
 
@@ -162,12 +139,8 @@ fn next_phase(w: Warning, p: Phase) -> Activity
     ensures { result ≡ next_phase w p }
 {
     match p {
-        Phase::Blink => if w.turn < w.over {
-            Activity::Warned(delay(w))
-        } else {
-            Activity::Still
-        },
-        Phase::Delay => Activity::Still,
+        Phase::Blink if w.turn < w.over => Activity::Warned(delay(w)),
+        Phase::Blink | Phase::Delay => Activity::Still,
     }
 }
 
@@ -176,12 +149,8 @@ fn next_activity(a: Activity) -> Activity
     ensures { result ≡ next_activity a }
 {
     match a {
-        Activity::Still => a,
-        Activity::Moving(_) => Activity::Still,
-        Activity::Warned(w) => {
-            let p = w.phase;
-            next_phase(w, p)
-        },
+        Activity::Still | Activity::Moving(_) => Activity::Still,
+        Activity::Warned(w) => next_phase(w, w.phase),
     }
 }
 
@@ -208,11 +177,8 @@ fn phase_slots(w: Warning, p: Phase, s: Slots) -> Slots
     ensures { result ≡ phase_slots w p s }
 {
     match p {
-        Phase::Blink => if w.turn < w.over {
-            output_slots::fill(s, SLOT_6, w.level)
-        } else {
-            output_slots::empty(s, SLOT_6)
-        },
+        Phase::Blink if w.turn < w.over => output_slots::fill(s, SLOT_6, w.level),
+        Phase::Blink => output_slots::empty(s, SLOT_6),
         Phase::Delay => warning_empty(s, w.owner),
     }
 }
@@ -222,12 +188,8 @@ fn next_slots(a: Activity, s: Slots) -> Slots
     ensures { result ≡ next_slots a s }
 {
     match a {
-        Activity::Still => s,
-        Activity::Moving(_) => s,
-        Activity::Warned(w) => {
-            let p = w.phase;
-            phase_slots(w, p, s)
-        },
+        Activity::Still | Activity::Moving(_) => s,
+        Activity::Warned(w) => phase_slots(w, w.phase, s),
     }
 }
 
@@ -247,12 +209,9 @@ fn slots_at(t: u64, a: Activity, s: Slots) -> Slots
 pub fn after_events(o: Output) -> Output
     ensures { result ≡ after_events o }
 {
-    let settings = o.settings;
-    let slots = o.slots;
-    let relay = o.relay;
     output_record::with_relay(
         o,
-        output_relay::switch(output_value::present_value(settings, slots), relay),
+        output_relay::switch(output_value::present_value(o.settings, o.slots), o.relay),
     )
 }
 
@@ -261,14 +220,11 @@ pub fn after_events(o: Output) -> Output
 pub fn fire_at(t: u64, o: Output) -> Output
     ensures { result ≡ fire t o }
 {
-    let timer = o.timer;
-    let activity = o.activity;
-    let slots = o.slots;
-    let left = end_movement_on_expiry(t, timer, activity);
+    let left = end_movement_on_expiry(t, o.timer, o.activity);
     after_events(output_record::with_due(
         o,
-        slots_at(t, left, expire(t, timer, slots)),
+        slots_at(t, left, expire(t, o.timer, o.slots)),
         activity_at(t, left),
-        timer_at(t, timer),
+        timer_at(t, o.timer),
     ))
 }

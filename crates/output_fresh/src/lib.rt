@@ -17,11 +17,7 @@ use lighting_outputs::{
 fn fresh_fade(parameters: Parameters) -> u32
     ensures { result ≡ fresh_fade parameters }
 {
-    if parameters.fade < 1000 {
-        parameters.fade
-    } else {
-        1000
-    }
+    parameters.fade.min(1_000)
 }
 
 #[tactic(auto, unfolding(lighting_levels::specs::Paper::Level::real, lighting_outputs::specs::Paper::Fresh::fresh_settings))]
@@ -30,7 +26,7 @@ fn fresh_settings(fade: u32) -> Settings
 {
     Settings {
         default: 0,
-        fade: fade,
+        fade,
         ramp: 10.0,
         step: 5.0,
         enable: false,
@@ -60,25 +56,20 @@ fn fresh_relay() -> Relay
 fn fresh_with(fade: u32) -> Output
     ensures { result ≡ fresh_with fade }
 {
-    let levels = [0; SLOTS];
-    let slots = Slots {
-        live: 0,
-        levels: levels,
-    };
-    let last = Command {
-        operation: Operation::Stop,
-        duration: Duration::Omitted,
-    };
-    let settings = fresh_settings(fade);
-    let relay = fresh_relay();
     Output {
-        settings: settings,
-        slots: slots,
+        settings: fresh_settings(fade),
+        slots: Slots {
+            live: 0,
+            levels: [0; SLOTS],
+        },
         activity: Activity::Still,
         timer: None,
         burning: 0,
-        last: last,
-        relay: relay,
+        last: Command {
+            operation: Operation::Stop,
+            duration: Duration::Omitted,
+        },
+        relay: fresh_relay(),
     }
 }
 
@@ -94,10 +85,9 @@ pub fn fresh_output(parameters: Parameters) -> Output
 pub fn fresh_station() -> Station
     ensures { result ≡ fresh_station }
 {
-    let frame = [0; LONGEST_FRAME];
     Station {
         answer: Answer::Done,
         number: 0,
-        frame: frame,
+        frame: [0; LONGEST_FRAME],
     }
 }

@@ -18,13 +18,7 @@ use number_ranges::is_within;
 fn binary_at(v: u32, relay: Relay) -> bool
     ensures { result ≡ binary_at v relay }
 {
-    if relay.active <= v {
-        true
-    } else if v <= relay.inactive {
-        false
-    } else {
-        relay.binary
-    }
+    relay.active <= v || (v > relay.inactive && relay.binary)
 }
 
 // The relay judged.
@@ -33,10 +27,8 @@ pub fn switch(v: u32, relay: Relay) -> Relay
     ensures { result ≡ switched v relay }
 {
     Relay {
-        active: relay.active,
-        inactive: relay.inactive,
-        reverse: relay.reverse,
         binary: binary_at(v, relay),
+        ..relay
     }
 }
 
@@ -45,11 +37,7 @@ pub fn switch(v: u32, relay: Relay) -> Relay
 pub fn relay_state(relay: Relay) -> bool
     ensures { result ≡ relay_state relay }
 {
-    if relay.reverse {
-        !relay.binary
-    } else {
-        relay.binary
-    }
+    relay.binary != relay.reverse
 }
 
 // 'the inactive value not below the active one', which is 16.
@@ -67,11 +55,7 @@ pub fn inactive_not_below(relay: Relay) -> bool
 fn is_low_level(inactive: u32) -> bool
     ensures { result ≡ (when eqb inactive 0 then true else leb least_level inactive) }
 {
-    if inactive == 0 {
-        true
-    } else {
-        LEAST_LEVEL <= inactive
-    }
+    inactive == 0 || LEAST_LEVEL <= inactive
 }
 
 // Binary_Present_Value is as judging leaves it: where active, Present_Value is above the inactive value;
@@ -95,17 +79,8 @@ fn is_judged(v: u32, relay: Relay) -> bool
 pub fn relay_sound(v: u32, relay: Relay) -> bool
     ensures { (p : Parameters) → result ≡ relay_sound p v relay }
 {
-    if relay.inactive < relay.active {
-        if is_within(LEAST_LEVEL, GREATEST_LEVEL, relay.active) {
-            if is_low_level(relay.inactive) {
-                is_judged(v, relay)
-            } else {
-                false
-            }
-        } else {
-            false
-        }
-    } else {
-        false
-    }
+    relay.inactive < relay.active
+        && is_within(LEAST_LEVEL, GREATEST_LEVEL, relay.active)
+        && is_low_level(relay.inactive)
+        && is_judged(v, relay)
 }
