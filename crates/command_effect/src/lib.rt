@@ -3,10 +3,11 @@
 // that it finds, with any warning ended; `g` is a target, in units.
 #![tactic(auto)]
 
-ghost use Rattle.std.specs.Prelude.{◌≡◌, ◌<◌, ◌^◌};
+ghost use Rattle.std.specs.Prelude.{◌≡◌};
 ghost use Rattle.lighting_outputs.specs.Paper.Commands.{without_warning, activity_without_warning, jumped, went_to, stepped_up, stepped_down, raised, halted, stopped, relinquished, effect, commanded_from, commanded};
 
 use lighting_outputs::{Activity, Command, Effect, Operation, Output, SLOT_6, Settings, Slots};
+use panel_time::PanelTime;
 
 // ---- 'and first ends any warning by emptying slot 6'
 
@@ -118,9 +119,8 @@ fn relinquish(c: Settings, s: Slots, a: Activity) -> Effect
 // ---- a command
 
 #[tactic(auto, unfolding(lighting_outputs::specs::Paper::Commands::effect))]
-fn make_effect(t: u64, c: Settings, f: u32, s: Slots, a: Activity, k: Operation) -> Effect
-    requires { t < 2 ^ 48 }
-    ensures { result ≡ effect t c f s a k }
+fn make_effect(t: PanelTime, c: Settings, f: u32, s: Slots, a: Activity, k: Operation) -> Effect
+    ensures { result ≡ effect t.milliseconds c f s a k }
 {
     match k {
         Operation::Stop => stop(c, f, s, a),
@@ -138,9 +138,8 @@ fn make_effect(t: u64, c: Settings, f: u32, s: Slots, a: Activity, k: Operation)
 }
 
 #[tactic(auto, unfolding(lighting_outputs::specs::Paper::Commands::commanded_from))]
-fn command_from(t: u64, o: Output, f: u32, k: Command) -> Output
-    requires { t < 2 ^ 48 }
-    ensures { result ≡ commanded_from t o f k }
+fn command_from(t: PanelTime, o: Output, f: u32, k: Command) -> Output
+    ensures { result ≡ commanded_from t.milliseconds o f k }
 {
     let c = o.settings;
     let a = o.activity;
@@ -162,9 +161,8 @@ fn command_from(t: u64, o: Output, f: u32, k: Command) -> Output
 
 // 'It starts from Progress_Value before it': not from Present_Value, at which a running movement only aims.
 #[tactic(auto, unfolding(lighting_outputs::specs::Paper::Commands::commanded))]
-pub fn command(t: u64, o: Output, k: Command) -> Output
-    requires { t < 2 ^ 48 }
-    ensures { result ≡ commanded t o k }
+pub fn command(t: PanelTime, o: Output, k: Command) -> Output
+    ensures { result ≡ commanded t.milliseconds o k }
 {
-    command_from(t, o, output_value::progress_value(t, o), k)
+    command_from(t, o, output_value::progress_value(t.milliseconds, o), k)
 }

@@ -3,11 +3,12 @@
 // activity that it finds; `g` is the target, in units.
 #![tactic(auto)]
 
-ghost use Rattle.std.specs.Prelude.{◌≡◌, ◌<◌, ◌≤◌, ◌^◌};
+ghost use Rattle.std.specs.Prelude.{◌≡◌, ◌≤◌};
 ghost use Rattle.lighting_outputs.specs.Paper.Commands.{replaced, placed, movement, ramp_length, target, faded_over, faded_to, ramped_at, ramped_to};
 ghost use Rattle.lighting_levels.specs.Paper.Level.{distance};
 
 use lighting_outputs::{Activity, Effect, Movement, Pace, Settings, Slots};
+use panel_time::PanelTime;
 
 // 'If p is then the winner [w] it replaces the movement; if not, an existing movement goes on'.
 #[tactic(auto, using(lighting_levels::proofs::Choosing::ifs), unfolding(lighting_outputs::specs::Paper::Commands::replaced))]
@@ -31,9 +32,8 @@ pub fn place(s: Slots, a: Activity, p: u8, g: u32, new: Activity) -> Effect
 
 // A movement of slot p at t, from `start` to g over l: 'If s = g there is no movement'.
 #[tactic(auto, using(lighting_levels::proofs::Choosing::ifs), unfolding(lighting_outputs::specs::Paper::Commands::movement))]
-fn begin(t: u64, p: u8, start: u32, g: u32, l: u32, pace: Pace) -> Activity
-    requires { t < 2 ^ 48 }
-    ensures { result ≡ movement t p start g l pace }
+fn begin(t: PanelTime, p: u8, start: u32, g: u32, l: u32, pace: Pace) -> Activity
+    ensures { result ≡ movement t.milliseconds p start g l pace }
 {
     if start == g {
         Activity::Still
@@ -43,7 +43,7 @@ fn begin(t: u64, p: u8, start: u32, g: u32, l: u32, pace: Pace) -> Activity
             start,
             target: g,
             length: l,
-            over: t + l as u64,
+            over: t.later(l),
             pace,
         })
     }
@@ -75,35 +75,31 @@ pub fn target_of(c: Settings, x: f32) -> u32
 // ---- fades and ramps
 
 #[tactic(auto, unfolding(lighting_outputs::specs::Paper::Commands::faded_over))]
-fn fade_over(t: u64, c: Settings, f: u32, s: Slots, a: Activity, g: u32, l: u32) -> Effect
-    requires { t < 2 ^ 48 }
-    ensures { result ≡ faded_over t c f s a g l }
+fn fade_over(t: PanelTime, c: Settings, f: u32, s: Slots, a: Activity, g: u32, l: u32) -> Effect
+    ensures { result ≡ faded_over t.milliseconds c f s a g l }
 {
     place(s, a, c.slot, g, begin(t, c.slot, f, g, l, Pace::Fade))
 }
 
 #[tactic(auto, unfolding(lighting_outputs::specs::Paper::Commands::faded_to))]
-pub fn fade_to(t: u64, c: Settings, f: u32, s: Slots, a: Activity, x: f32, l: u32) -> Effect
-    requires { t < 2 ^ 48 }
-    ensures { result ≡ faded_to t c f s a x l }
+pub fn fade_to(t: PanelTime, c: Settings, f: u32, s: Slots, a: Activity, x: f32, l: u32) -> Effect
+    ensures { result ≡ faded_to t.milliseconds c f s a x l }
 {
     fade_over(t, c, f, s, a, target_of(c, x), l)
 }
 
 #[tactic(auto, unfolding(lighting_outputs::specs::Paper::Commands::ramped_at))]
-fn ramp_at(t: u64, c: Settings, f: u32, s: Slots, a: Activity, g: u32, rate: u32) -> Effect
-    requires t_bound { t < 2 ^ 48 }
+fn ramp_at(t: PanelTime, c: Settings, f: u32, s: Slots, a: Activity, g: u32, rate: u32) -> Effect
     requires le_rate { 8192 ≤ rate }
-    ensures { result ≡ ramped_at t c f s a g rate }
+    ensures { result ≡ ramped_at t.milliseconds c f s a g rate }
 {
     let l = ramp_length(distance(f, g), rate);
     place(s, a, c.slot, g, begin(t, c.slot, f, g, l, Pace::Ramp(rate)))
 }
 
 #[tactic(auto, unfolding(lighting_outputs::specs::Paper::Commands::ramped_to))]
-pub fn ramp_to(t: u64, c: Settings, f: u32, s: Slots, a: Activity, x: f32, rate: f32) -> Effect
-    requires { t < 2 ^ 48 }
-    ensures { result ≡ ramped_to t c f s a x rate }
+pub fn ramp_to(t: PanelTime, c: Settings, f: u32, s: Slots, a: Activity, x: f32, rate: f32) -> Effect
+    ensures { result ≡ ramped_to t.milliseconds c f s a x rate }
 {
     ramp_at(
         t,

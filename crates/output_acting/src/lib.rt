@@ -2,12 +2,13 @@
 // reads, or is refused. By value, and on any record at all; the time comes from six bytes.
 #![tactic(auto)]
 
-ghost use Rattle.std.specs.Prelude.{◌≡◌, ◌<◌, ◌^◌};
+ghost use Rattle.std.specs.Prelude.{◌≡◌};
 ghost use Rattle.lighting_outputs.specs.Paper.Properties.{settings_with, relay_with, min_over_max};
 ghost use Rattle.lighting_outputs.specs.Paper.Relay.{inactive_not_below};
 ghost use Rattle.lighting_outputs.specs.Paper.Acting.{done, unchanged, changed_unless, acted};
 
 use lighting_outputs::{Answer, Outcome, Output, OutputRequest, Property, Refusal};
+use panel_time::PanelTime;
 use property_write::settings;
 
 // The output changed, and judged.
@@ -62,9 +63,8 @@ fn change(o: Output, n: Property, v: u32) -> Outcome
 
 // The station's mark is asked by a read alone (§8).
 #[tactic(auto, unfolding(lighting_outputs::specs::Paper::Acting::acted))]
-pub fn act(tenant: bool, t: u64, o: Output, q: OutputRequest) -> Outcome
-    requires { t < 2 ^ 48 }
-    ensures { result ≡ acted tenant t o q }
+pub fn act(tenant: bool, t: PanelTime, o: Output, q: OutputRequest) -> Outcome
+    ensures { result ≡ acted tenant t.milliseconds o q }
 {
     match q {
         OutputRequest::Write { slot, level } => done(output_writing::write(t, o, slot, level)),
@@ -72,7 +72,7 @@ pub fn act(tenant: bool, t: u64, o: Output, q: OutputRequest) -> Outcome
         OutputRequest::Change { property, value } => change(o, property, value),
         OutputRequest::Read(property) => unchanged(
             o,
-            property_read::read_property(tenant, t, o, property),
+            property_read::read_property(tenant, t.milliseconds, o, property),
         ),
         OutputRequest::Commands(k) => done(command_effect::command(t, o, k)),
     }

@@ -3,11 +3,12 @@
 // moment, `c` the settings, `s` the slots, `x` the slot.
 #![tactic(auto)]
 
-ghost use Rattle.std.specs.Prelude.{◌≡◌, ◌<◌, ◌^◌};
+ghost use Rattle.std.specs.Prelude.{◌≡◌, ◌<◌};
 ghost use Rattle.lighting_outputs.specs.Paper.Writing.{zero_or_empty, zero_or_empty_from, blinks, zero_or_empty_above, warns_by, warns, first_level, first_phase, warning_from};
 ghost use Rattle.lighting_outputs.specs.Paper.Slots.{slot_count};
 
 use lighting_outputs::{Phase, SLOT_6, SLOTS, Settings, Slots, Warning};
+use panel_time::PanelTime;
 
 // ---- whether it starts
 
@@ -125,15 +126,14 @@ fn first_phase(c: Settings) -> Phase
 
 // 'B, D and Y are those of the start': the phases' moments are made here, once.
 #[tactic(auto, unfolding(lighting_outputs::specs::Paper::Writing::warning_from))]
-pub fn warning_from(t: u64, c: Settings, x: u8, y: u32) -> Warning
-    requires { t < 2 ^ 48 }
-    ensures { result ≡ warning_from t c x y }
+pub fn warning_from(t: PanelTime, c: Settings, x: u8, y: u32) -> Warning
+    ensures { result ≡ warning_from t.milliseconds c x y }
 {
     Warning {
         phase: first_phase(c),
         owner: x,
         level: y,
-        turn: t + c.blink as u64,
-        over: t + c.blink as u64 + c.delay as u64,
+        turn: t.later(c.blink),
+        over: t.later(c.blink) + u64::from(c.delay),
     }
 }

@@ -3,11 +3,12 @@
 // output, `i` the slot, `v` the level.
 #![tactic(auto)]
 
-ghost use Rattle.std.specs.Prelude.{◌≡◌, ◌<◌, ◌^◌};
+ghost use Rattle.std.specs.Prelude.{◌≡◌};
 ghost use Rattle.lighting_outputs.specs.Paper.Writing.{end_movement_unless_above, stored, warned_by, warned, ended_empty, ended_stored, written_warned, written_zero, written_calm, written_by, written, activity_relinquished, slot_relinquished};
 
 use lighting_outputs::{Activity, Output, SLOT_6};
 use output_record::with_effect;
+use panel_time::PanelTime;
 
 // ---- warnings aside
 
@@ -37,9 +38,8 @@ fn store(o: Output, i: u8, v: u32) -> Output
 // ---- a warning starts
 
 #[tactic(auto, unfolding(lighting_outputs::specs::Paper::Writing::warned_by))]
-fn warn_by(t: u64, o: Output, x: u8, y: u32) -> Output
-    requires { t < 2 ^ 48 }
-    ensures { result ≡ warned_by t o x y }
+fn warn_by(t: PanelTime, o: Output, x: u8, y: u32) -> Output
+    ensures { result ≡ warned_by t.milliseconds o x y }
 {
     with_effect(
         o,
@@ -54,9 +54,8 @@ fn warn_by(t: u64, o: Output, x: u8, y: u32) -> Output
 
 // Y is Present_Value before the write.
 #[tactic(auto, unfolding(lighting_outputs::specs::Paper::Writing::warned))]
-fn warn(t: u64, o: Output, x: u8) -> Output
-    requires { t < 2 ^ 48 }
-    ensures { result ≡ warned t o x }
+fn warn(t: PanelTime, o: Output, x: u8) -> Output
+    ensures { result ≡ warned t.milliseconds o x }
 {
     warn_by(t, o, x, output_value::present_value(o.settings, o.slots))
 }
@@ -100,9 +99,8 @@ fn write_warned(o: Output, i: u8, v: u32) -> Output
 // ---- kind 02
 
 #[tactic(auto, using(lighting_levels::proofs::Choosing::ifs), unfolding(lighting_outputs::specs::Paper::Writing::written_zero))]
-fn write_zero(t: u64, o: Output, i: u8) -> Output
-    requires { t < 2 ^ 48 }
-    ensures { result ≡ written_zero t o i }
+fn write_zero(t: PanelTime, o: Output, i: u8) -> Output
+    ensures { result ≡ written_zero t.milliseconds o i }
 {
     if output_warning::does_warn(o.settings, o.slots, i) {
         warn(t, o, i)
@@ -112,9 +110,8 @@ fn write_zero(t: u64, o: Output, i: u8) -> Output
 }
 
 #[tactic(auto, using(lighting_levels::proofs::Choosing::ifs), unfolding(lighting_outputs::specs::Paper::Writing::written_calm))]
-fn write_calm(t: u64, o: Output, i: u8, v: u32) -> Output
-    requires { t < 2 ^ 48 }
-    ensures { result ≡ written_calm t o i v }
+fn write_calm(t: PanelTime, o: Output, i: u8, v: u32) -> Output
+    ensures { result ≡ written_calm t.milliseconds o i v }
 {
     if v == 0 {
         write_zero(t, o, i)
@@ -124,9 +121,8 @@ fn write_calm(t: u64, o: Output, i: u8, v: u32) -> Output
 }
 
 #[tactic(auto, unfolding(lighting_outputs::specs::Paper::Writing::written_by))]
-fn write_by(t: u64, o: Output, i: u8, v: u32, a: Activity) -> Output
-    requires { t < 2 ^ 48 }
-    ensures { result ≡ written_by t o i v a }
+fn write_by(t: PanelTime, o: Output, i: u8, v: u32, a: Activity) -> Output
+    ensures { result ≡ written_by t.milliseconds o i v a }
 {
     match a {
         Activity::Still | Activity::Moving(_) => write_calm(t, o, i, v),
@@ -135,9 +131,8 @@ fn write_by(t: u64, o: Output, i: u8, v: u32, a: Activity) -> Output
 }
 
 #[tactic(auto, unfolding(lighting_outputs::specs::Paper::Writing::written))]
-pub fn write(t: u64, o: Output, i: u8, v: u32) -> Output
-    requires { t < 2 ^ 48 }
-    ensures { result ≡ written t o i v }
+pub fn write(t: PanelTime, o: Output, i: u8, v: u32) -> Output
+    ensures { result ≡ written t.milliseconds o i v }
 {
     write_by(t, o, i, v, o.activity)
 }

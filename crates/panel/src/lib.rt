@@ -12,6 +12,7 @@ ghost use Rattle.lighting_panel.specs.Engine.Executing.{execute, frame_step};
 use lighting_frames::{Call, Station, Verdict};
 use lighting_outputs::{Answer, Output, Parameters, Refusal};
 use lighting_panel::PanelRecord;
+use panel_time::PanelTime;
 
 // A first arrival: the panel goes to its time and acts, and the station keeps number, frame and answer.
 #[tactic(auto, unfolding(lighting_panel::specs::Engine::Executing::execute))]
@@ -30,7 +31,7 @@ fn arrive(
     let answer = panel_tables::serve(
         outputs,
         tenant_view::is_tenant(kept.tenants, call.station),
-        call.time,
+        PanelTime::new(call.time),
         usize::from(call.output),
         call.request,
     );

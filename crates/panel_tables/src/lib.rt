@@ -3,7 +3,7 @@
 // the work, and the record is put back.
 #![tactic(auto)]
 
-ghost use Rattle.std.specs.Prelude.{Ok, map, ◌≡◌, ◌≤◌, ◌<◌, ◌^◌, length, replicate, set, get_or};
+ghost use Rattle.std.specs.Prelude.{Ok, map, ◌≡◌, ◌≤◌, ◌<◌, length, replicate, set, get_or};
 ghost use Rattle.lighting_outputs.specs.Paper.Fresh.{fresh_for, fresh_output};
 ghost use Rattle.lighting_frames.specs.Paper.Stations.{fresh_station};
 ghost use Rattle.lighting_outputs.specs.Engine.Advance.{advance};
@@ -12,6 +12,7 @@ ghost use Rattle.lighting_panel.specs.Engine.VerdictPrecondition.{Standing};
 
 use lighting_frames::Station;
 use lighting_outputs::{Answer, Output, OutputRequest, Parameters, Request};
+use panel_time::PanelTime;
 
 // ---- each record of a table
 
@@ -80,14 +81,13 @@ pub fn advance_outputs(outputs: &mut [Output], from: u64, to: u64)
 fn serve_output(
     outputs: &mut [Output],
     tenant: bool,
-    time: u64,
+    time: PanelTime,
     at: usize,
     request: OutputRequest,
 ) -> Answer
-    requires time_bound { time < 2 ^ 48 }
     requires at_in_bounds { at < length outputs.old }
-    ensures value { result ≡ (served tenant time outputs.old at (Ok request)).answer }
-    ensures outputs_after { outputs.new ≡ (served tenant time outputs.old at (Ok request)).outputs }
+    ensures value { result ≡ (served tenant time.milliseconds outputs.old at (Ok request)).answer }
+    ensures outputs_after { outputs.new ≡ (served tenant time.milliseconds outputs.old at (Ok request)).outputs }
 {
     let done = output_acting::act(tenant, time, outputs[at], request);
     outputs[at] = done.output;
@@ -96,11 +96,16 @@ fn serve_output(
 
 // Any request, of a tenant or of a service station: one that its fields refuse touches no output.
 #[tactic(auto, unfolding(lighting_outputs::specs::Paper::Acting::served))]
-pub fn serve(outputs: &mut [Output], tenant: bool, time: u64, at: usize, request: Request) -> Answer
-    requires time_bound { time < 2 ^ 48 }
+pub fn serve(
+    outputs: &mut [Output],
+    tenant: bool,
+    time: PanelTime,
+    at: usize,
+    request: Request,
+) -> Answer
     requires at_in_bounds { at < length outputs.old }
-    ensures value { result ≡ (served tenant time outputs.old at request).answer }
-    ensures outputs_after { outputs.new ≡ (served tenant time outputs.old at request).outputs }
+    ensures value { result ≡ (served tenant time.milliseconds outputs.old at request).answer }
+    ensures outputs_after { outputs.new ≡ (served tenant time.milliseconds outputs.old at request).outputs }
 {
     match request {
         Err(refusal) => Answer::from(refusal),
