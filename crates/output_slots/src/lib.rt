@@ -76,12 +76,28 @@ pub fn fill(s: Slots, i: u8, v: u32) -> Slots
     }
 }
 
+// The level of slot i. The levels are copied alone, and only where one is looked up: a copy of all of the
+// slots would put the levels askew.
+// Stays: a local and an index. Tried as `get` with `unwrap_or`, which reads a record by reference: it takes
+// more instructions at every output and frame.
+fn level_of(s: Slots, i: u32) -> u32
+    requires { i < slot_count }
+    ensures { result ≡ get_or s.levels i 0 }
+{
+    let levels = s.levels;
+    levels[i as usize]
+}
+
 // The level of slot i, or d where there is no such slot.
 #[tactic(auto, using(lighting_levels::proofs::Choosing::ifs), unfolding(lighting_outputs::specs::Paper::Slots::level_at))]
 pub fn level_at(d: u32, s: Slots, i: u32) -> u32
     ensures { result ≡ level_at d s i }
 {
-    *s.levels.get(i as usize).unwrap_or(&d)
+    if i < u32::from(NO_SLOT) {
+        level_of(s, i)
+    } else {
+        d
+    }
 }
 
 // The winner's level, or d with no live slot.
