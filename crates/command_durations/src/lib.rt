@@ -19,7 +19,7 @@ fn running(t: PanelTime, p: u8, d: u32) -> Option<Timer>
 }
 
 // 'a new one replaces it, 0 cancels it, Absent leaves it running'.
-#[tactic(auto, using(lighting_levels::proofs::Choosing::ifs, lighting_outputs::proofs::Laws::timed_on), unfolding(lighting_outputs::specs::Paper::Commands::timed))]
+#[tactic(auto, unfolding(lighting_outputs::specs::Paper::Commands::timed))]
 pub fn time(t: PanelTime, p: u8, m: Option<Timer>, d: Duration) -> Option<Timer>
     ensures { result ≡ timed t.milliseconds p m d }
 {

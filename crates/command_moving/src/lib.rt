@@ -5,7 +5,6 @@
 
 ghost use Rattle.std.specs.Prelude.{◌≡◌, ◌≤◌};
 ghost use Rattle.lighting_outputs.specs.Paper.Commands.{replaced, placed, movement, ramp_length, target, faded_over, faded_to, ramped_at, ramped_to};
-ghost use Rattle.lighting_levels.specs.Paper.Level.{distance};
 
 use lighting_outputs::{Activity, Effect, Movement, Pace, Settings, Slots};
 use panel_time::PanelTime;
@@ -15,7 +14,7 @@ use panel_time::PanelTime;
 fn replace(w: u32, p: u8, new: Activity, old: Activity) -> Activity
     ensures { result ≡ replaced w p new old }
 {
-    if w == p as u32 { new } else { old }
+    if w == u32::from(p) { new } else { old }
 }
 
 // The winner is asked for after the target was put.
@@ -49,19 +48,13 @@ fn begin(t: PanelTime, p: u8, start: u32, g: u32, l: u32, pace: Pace) -> Activit
     }
 }
 
-fn distance(start: u32, g: u32) -> u32
-    ensures { result ≡ distance start g }
-{
-    if start < g { g - start } else { start - g }
-}
-
 // 'L = ceiling(1,000 × |g - s| / R)', d the way: no rate is below an eighth of a percent, so the length fits.
 #[tactic(auto, unfolding(lighting_outputs::specs::Paper::Commands::ramp_length))]
 fn ramp_length(d: u32, rate: u32) -> u32
     requires { 8192 ≤ rate }
     ensures { result ≡ ramp_length d rate }
 {
-    ((1000 * (d as u64) + ((rate - 1) as u64)) / (rate as u64)) as u32
+    (1000 * u64::from(d)).div_ceil(u64::from(rate)) as u32
 }
 
 // 'A target is brought into Min..Max if above zero'.
@@ -93,7 +86,7 @@ fn ramp_at(t: PanelTime, c: Settings, f: u32, s: Slots, a: Activity, g: u32, rat
     requires le_rate { 8192 ≤ rate }
     ensures { result ≡ ramped_at t.milliseconds c f s a g rate }
 {
-    let l = ramp_length(distance(f, g), rate);
+    let l = ramp_length(g.abs_diff(f), rate);
     place(s, a, c.slot, g, begin(t, c.slot, f, g, l, Pace::Ramp(rate)))
 }
 

@@ -19,15 +19,9 @@ const LAST_SLOT: u32 = 15;
 fn span_sound(parameters: Parameters, t: u64, m: Movement) -> bool
     ensures { result ≡ span_sound parameters t m }
 {
-    if t < m.over {
-        if m.over - t <= m.length as u64 {
-            number_ranges::is_length(parameters, m.length)
-        } else {
-            false
-        }
-    } else {
-        false
-    }
+    t < m.over
+        && m.over - t <= u64::from(m.length)
+        && number_ranges::is_length(parameters, m.length)
 }
 
 // It belongs to the winner w, starts from 0 to Max, here high, and aims at Present_Value v.
@@ -35,23 +29,11 @@ fn span_sound(parameters: Parameters, t: u64, m: Movement) -> bool
 fn movement_sound(parameters: Parameters, t: u64, w: u32, high: u32, v: u32, m: Movement) -> bool
     ensures { result ≡ movement_sound parameters t w high v m }
 {
-    if m.owner < NO_SLOT {
-        if m.owner as u32 == w {
-            if m.start <= high {
-                if m.target == v {
-                    span_sound(parameters, t, m)
-                } else {
-                    false
-                }
-            } else {
-                false
-            }
-        } else {
-            false
-        }
-    } else {
-        false
-    }
+    m.owner < NO_SLOT
+        && u32::from(m.owner) == w
+        && m.start <= high
+        && m.target == v
+        && span_sound(parameters, t, m)
 }
 
 // A warning's own slot is 7 to 16, and its Y a slot level; e is the end of its phase.
@@ -59,23 +41,17 @@ fn movement_sound(parameters: Parameters, t: u64, w: u32, high: u32, v: u32, m: 
 fn warning_by(t: u64, w: Warning, e: u64) -> bool
     ensures { result ≡ warning_by t w e }
 {
-    if is_within(SLOT_7, LAST_SLOT, w.owner as u32) {
-        if number_ranges::is_level(w.level) {
-            if t < e { e <= w.over } else { false }
-        } else {
-            false
-        }
-    } else {
-        false
-    }
+    is_within(SLOT_7, LAST_SLOT, u32::from(w.owner))
+        && number_ranges::is_level(w.level)
+        && t < e
+        && e <= w.over
 }
 
 #[tactic(auto, unfolding(lighting_outputs::specs::Paper::Rules::warning_sound))]
 fn warning_sound(t: u64, w: Warning) -> bool
     ensures { result ≡ warning_sound t w }
 {
-    let p = w.phase;
-    warning_by(t, w, output_due::phase_end(w, p))
+    warning_by(t, w, output_due::phase_end(w, w.phase))
 }
 
 // Slot 6 is live, here l, exactly during a warning.
@@ -93,12 +69,8 @@ pub fn activity_by(
 {
     match a {
         Activity::Still => !l,
-        Activity::Moving(m) => if l {
-            false
-        } else {
-            movement_sound(parameters, t, w, high, v, m)
-        },
-        Activity::Warned(g) => if l { warning_sound(t, g) } else { false },
+        Activity::Moving(m) => !l && movement_sound(parameters, t, w, high, v, m),
+        Activity::Warned(g) => l && warning_sound(t, g),
     }
 }
 
@@ -107,8 +79,5 @@ pub fn activity_by(
 pub fn timer_sound(t: u64, m: Option<Timer>) -> bool
     ensures { result ≡ timer_sound t m }
 {
-    match m {
-        None => true,
-        Some(Timer { slot, due }) => if is_slot(slot as u32) { t < due } else { false },
-    }
+    m.is_none_or(|timer| is_slot(u32::from(timer.slot)) && t < timer.due)
 }

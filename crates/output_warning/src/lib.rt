@@ -18,26 +18,13 @@ fn is_zero_or_empty(s: Slots, i: usize) -> bool
     requires { i < slot_count }
     ensures { result ≡ zero_or_empty s i }
 {
-    if output_slots::is_live(s, i as u8) {
-        s.levels[i] == 0
-    } else {
-        true
-    }
+    !output_slots::is_live(s, i as u8) || s.levels[i] == 0
 }
 
-#[tactic(auto, using(lighting_levels::proofs::Scan::scan_done, lighting_levels::proofs::Scan::scan_off, lighting_levels::proofs::Scan::scan_on), unfolding(lighting_outputs::specs::Paper::Writing::zero_or_empty_from))]
 fn zero_or_empty_from(s: Slots, from: usize) -> bool
     ensures { result ≡ zero_or_empty_from s from }
 {
-    let mut i = from;
-    while i < SLOTS {
-        if is_zero_or_empty(s, i) {
-            i += 1;
-        } else {
-            return false;
-        }
-    }
-    true
+    (from..SLOTS).all(|i| is_zero_or_empty(s, i))
 }
 
 // 'if Blink_Enable is 1, Blink_Time B plus delay D is above 0'. The sum is made in 64 bits, for a lent record
@@ -46,11 +33,7 @@ fn zero_or_empty_from(s: Slots, from: usize) -> bool
 fn does_blink(c: Settings) -> bool
     ensures { result ≡ blinks c }
 {
-    if c.enable {
-        0 < c.blink as u64 + c.delay as u64
-    } else {
-        false
-    }
+    c.enable && 0 < u64::from(c.blink) + u64::from(c.delay)
 }
 
 // 'Relinquish_Default and slots X + 1 to 16 are zero or empty'.
@@ -58,11 +41,7 @@ fn does_blink(c: Settings) -> bool
 fn zero_or_empty_above(c: Settings, s: Slots, x: u8) -> bool
     ensures { result ≡ zero_or_empty_above c s x }
 {
-    if c.default == 0 {
-        zero_or_empty_from(s, x as usize + 1)
-    } else {
-        false
-    }
+    c.default == 0 && zero_or_empty_from(s, usize::from(x) + 1)
 }
 
 // `w` is the winner, `y` Present_Value. 'slots 1 to X - 1 are empty': the winner is no lower than x. The
@@ -71,23 +50,7 @@ fn zero_or_empty_above(c: Settings, s: Slots, x: u8) -> bool
 fn warns_by(c: Settings, s: Slots, x: u8, w: u32, y: u32) -> bool
     ensures { result ≡ warns_by c s x w y }
 {
-    if SLOT_6 < x {
-        if does_blink(c) {
-            if x as u32 <= w {
-                if 0 < y {
-                    zero_or_empty_above(c, s, x)
-                } else {
-                    false
-                }
-            } else {
-                false
-            }
-        } else {
-            false
-        }
-    } else {
-        false
-    }
+    SLOT_6 < x && does_blink(c) && u32::from(x) <= w && 0 < y && zero_or_empty_above(c, s, x)
 }
 
 #[tactic(auto, unfolding(lighting_outputs::specs::Paper::Writing::warns))]
