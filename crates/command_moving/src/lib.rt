@@ -91,7 +91,15 @@ fn ramp_at(t: PanelTime, c: Settings, f: u32, s: Slots, a: Activity, g: u32, rat
 }
 
 #[tactic(auto, unfolding(lighting_outputs::specs::Paper::Commands::ramped_to))]
-pub fn ramp_to(t: PanelTime, c: Settings, f: u32, s: Slots, a: Activity, x: f32, rate: f32) -> Effect
+pub fn ramp_to(
+    t: PanelTime,
+    c: Settings,
+    f: u32,
+    s: Slots,
+    a: Activity,
+    x: f32,
+    rate: f32,
+) -> Effect
     ensures { result ≡ ramped_to t.milliseconds c f s a x rate }
 {
     ramp_at(
