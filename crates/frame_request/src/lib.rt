@@ -6,7 +6,7 @@ ghost use Rattle.std.specs.Prelude.{◌≡◌};
 ghost use Rattle.lighting_levels.specs.Paper.Level.{real};
 ghost use Rattle.lighting_levels.specs.Paper.Field.{big_endian};
 ghost use Rattle.lighting_outputs.specs.Paper.Properties.{property_of, change_of};
-ghost use Rattle.lighting_outputs.specs.Paper.Requests.{write_level, write_of, empty_of};
+ghost use Rattle.lighting_outputs.specs.Paper.Requests.{write_level, write_of, empty_of, command_request};
 ghost use Rattle.lighting_frames.specs.Paper.Frames.{request_of};
 
 use command_parse::{command_request, tagged_request};
@@ -58,6 +58,13 @@ fn change_of(parameters: Parameters, n: u8, x: u32) -> Request
     property_write::change_of(parameters, property_of(n), x)
 }
 
+// A command whose duration stands at a place of the frame: its last field.
+fn command_at(parameters: Parameters, operation: Operation, b: &[u8], at: usize) -> Request
+    ensures { result ≡ command_request parameters operation (big_endian 4 b.now at) }
+{
+    command_request(parameters, operation, word32_at(b, at))
+}
+
 fn real_at(b: &[u8], at: usize) -> f32
     ensures { result ≡ real (big_endian 4 b.now at) }
 {
@@ -73,49 +80,27 @@ pub fn request_of(parameters: Parameters, action: Action, b: &[u8]) -> Request
         Action::EmptiesSlot => empty_of(byte_at(b, 13)),
         Action::WritesProperty => change_of(parameters, byte_at(b, 13), word32_at(b, 14)),
         Action::ReadsProperty => Ok(OutputRequest::Read(property_of(byte_at(b, 13)))),
-        Action::Stops => command_request(parameters, Operation::Stop, word32_at(b, 13)),
-        Action::FadesTo => command_request(
-            parameters,
-            Operation::FadeTo(real_at(b, 13)),
-            word32_at(b, 17),
-        ),
-        Action::FadesToOver => command_request(
+        Action::Stops => command_at(parameters, Operation::Stop, b, 13),
+        Action::FadesTo => command_at(parameters, Operation::FadeTo(real_at(b, 13)), b, 17),
+        Action::FadesToOver => command_at(
             parameters,
             Operation::FadeToOver(real_at(b, 13), word32_at(b, 17)),
-            word32_at(b, 21),
+            b,
+            21,
         ),
-        Action::RampsTo => command_request(
-            parameters,
-            Operation::RampTo(real_at(b, 13)),
-            word32_at(b, 17),
-        ),
-        Action::RampsToAtRate => command_request(
+        Action::RampsTo => command_at(parameters, Operation::RampTo(real_at(b, 13)), b, 17),
+        Action::RampsToAtRate => command_at(
             parameters,
             Operation::RampToAtRate(real_at(b, 13), real_at(b, 17)),
-            word32_at(b, 21),
+            b,
+            21,
         ),
-        Action::StepsUp => command_request(parameters, Operation::StepUp, word32_at(b, 13)),
-        Action::StepsDown => command_request(parameters, Operation::StepDown, word32_at(b, 13)),
-        Action::StepsUpBy => command_request(
-            parameters,
-            Operation::StepUpBy(real_at(b, 13)),
-            word32_at(b, 17),
-        ),
-        Action::StepsDownBy => command_request(
-            parameters,
-            Operation::StepDownBy(real_at(b, 13)),
-            word32_at(b, 17),
-        ),
-        Action::GoesTo => command_request(
-            parameters,
-            Operation::Goto(real_at(b, 13)),
-            word32_at(b, 17),
-        ),
-        Action::Relinquishes => command_request(
-            parameters,
-            Operation::Relinquish,
-            word32_at(b, 13),
-        ),
+        Action::StepsUp => command_at(parameters, Operation::StepUp, b, 13),
+        Action::StepsDown => command_at(parameters, Operation::StepDown, b, 13),
+        Action::StepsUpBy => command_at(parameters, Operation::StepUpBy(real_at(b, 13)), b, 17),
+        Action::StepsDownBy => command_at(parameters, Operation::StepDownBy(real_at(b, 13)), b, 17),
+        Action::GoesTo => command_at(parameters, Operation::Goto(real_at(b, 13)), b, 17),
+        Action::Relinquishes => command_at(parameters, Operation::Relinquish, b, 13),
         Action::CommandsTagged => tagged_request(
             parameters,
             tag_reading::read_body(from_on(b, 13)),
