@@ -1,14 +1,18 @@
--- One text written after another.
+-- One text put on a page after another.
 use mathlib.Core.Path.{◌≡◌, refl, sym, ap, ◌∙◌}
 use mathlib.Core.List.{[], ◌∷◌, ◌++◌, append_assoc, append-nil}
-use Prim.Native.Nat.{ℕ, suc, ◌+◌, ◌≤◌, ◌<◌}
+use Prim.Native.Nat.{ℕ, suc, ◌+◌, ◌-◌, ◌≤◌, ◌<◌, min, max}
 use native.Mathlib.Omega.{arith}
 use native.Mathlib.Numerals.{add-one}
-use lib.ListN.{length, take, drop, get_or, set, length-append}
-use lib.Seq.{sets, length-sets, sets-eq, set_out, take-suc, take_at, length-take-le}
+use lib.ListN.{length, take, drop, get_or, set, length-append, drop_of_length-le}
+use lib.Seq.{sets, length-sets, sets-eq, set_out, take-suc, take_at, take_all, length-take-le}
+use borrow.Rule.Slice.PartMut.{put_mid}
+use Rattle.std.proofs.lemmas.List.{take-append-drop}
+use Rattle.std.proofs.lemmas.Slice.{put_mid-paste}
 use Rattle.lighting_frames.specs.Paper.Frames.{Bytes}
 use Rattle.lighting_levels.proofs.Split.{by_le}
-use Rattle.text_printing.specs.Page.{Wrote}
+use Rattle.text_printing.specs.declared.Page.{Page}
+use Rattle.text_printing.specs.Page.{with_text}
 use Rattle.text_printing.specs.Writing.{hex2, hex_bytes}
 
 sets_append : (l : Bytes) (i : ℕ) (x y : Bytes) → sets l i (x ++ y) ≡ sets (sets l i x) (i + length x) y
@@ -20,62 +24,92 @@ sets_out : (l : Bytes) (i : ℕ) (x : Bytes) → length l ≤ i → sets l i x �
 sets_out l i [] h = refl
 sets_out l i (a ∷ x) h = rw (set_out l i a h) (sets_out l (suc i) x (omega arith))
 
+-- a page with other bytes behind the same reference, and another mark
+abbrev pub page_as : Page → Bytes → ℕ → Page
+page_as p x m = record { bytes = record p.bytes { now = x }; mark = m }
+
+page_with : (p : Page) {x y : Bytes} {m n : ℕ} → x ≡ y → m ≡ n → page_as p x m ≡ page_as p y n
+page_with p e f = rw (e, f) refl
+
 -- the page is as long as it was
-pub wrote_length : {p q : Bytes} {a b : ℕ} {x : Bytes} → Wrote p a x q b → length q ≡ length p
-wrote_length {p} {q} {a} {b} {x} f = ap length f.filled ∙ length-sets p a x
+pub length_with_text : (p : Page) (x : Bytes) → length (with_text p x).bytes.now ≡ length p.bytes.now
+unfolding with_text
+length_with_text p x = length-sets p.bytes.now p.mark x
 
 -- one after the other
-pub wrote_then : {p q s : Bytes} {a b c : ℕ} {x y : Bytes} → Wrote p a x q b → Wrote q b y s c → Wrote p a (x ++ y) s c
-wrote_then {p} {q} {s} {a} {b} {c} {x} {y} f g =
-    let e : length q ≡ length p = wrote_length f in
+pub with_text_then : (p : Page) (x y : Bytes) → with_text (with_text p x) y ≡ with_text p (x ++ y)
+unfolding with_text
+with_text_then p x y =
     let n : length (x ++ y) ≡ length x + length y = length-append x y in
-    record {
-      filled = g.filled ∙ ap (λ (l : Bytes). sets l b y) f.filled ∙ place ∙ sym (sets_append p a x y);
-      moved = omega (arith, f.moved, g.moved);
-    }
+    let e : length (sets p.bytes.now p.mark x) ≡ length p.bytes.now = length-sets p.bytes.now p.mark x in
+    page_with p (place ∙ sym (sets_append p.bytes.now p.mark x y)) (omega arith)
   where
-    place : sets (sets p a x) b y ≡ sets (sets p a x) (a + length x) y
+    place : sets (sets p.bytes.now p.mark x) (max p.mark (min (p.mark + length x) (length p.bytes.now))) y ≡ sets (sets p.bytes.now p.mark x) (p.mark + length x) y
     place =
-        by_le (a + length x) (length p)
-        (λ h t. ap (λ (k : ℕ). sets (sets p a x) k y) (omega (arith, f.moved)))
+        by_le (p.mark + length x) (length p.bytes.now)
+        (λ h t. ap (λ (k : ℕ). sets (sets p.bytes.now p.mark x) k y) (omega arith))
         (λ h t.
-        sets_out (sets p a x) b y (omega (arith, f.moved, length-sets p a x))
-        ∙ sym (sets_out (sets p a x) (a + length x) y (omega (arith, length-sets p a x))))
+        sets_out (sets p.bytes.now p.mark x) (max p.mark (min (p.mark + length x) (length p.bytes.now))) y (omega (arith, length-sets p.bytes.now p.mark x))
+        ∙ sym (sets_out (sets p.bytes.now p.mark x) (p.mark + length x) y (omega (arith, length-sets p.bytes.now p.mark x))))
 
 -- nothing, and a text past the page's end
-pub wrote_none : (p : Bytes) (a : ℕ) → Wrote p a [] p a
-wrote_none p a = record { filled = refl; moved = omega arith }
+pub with_text_none : (p : Page) → with_text p [] ≡ p
+unfolding with_text
+with_text_none p = page_with p refl (omega arith)
 
-pub wrote_out : (p : Bytes) (a : ℕ) (x : Bytes) → length p ≤ a → Wrote p a x p a
-wrote_out p a x h = record { filled = sym (sets_out p a x h); moved = omega arith }
+pub with_text_out : (p : Page) (x : Bytes) → length p.bytes.now ≤ p.mark → with_text p x ≡ p
+unfolding with_text
+with_text_out p x h = page_with p (sets_out p.bytes.now p.mark x h) (omega arith)
 
--- the same text by another name
-pub wrote_as : {p q : Bytes} {a b : ℕ} {x y : Bytes} → x ≡ y → Wrote p a x q b → Wrote p a y q b
-wrote_as e f = rw (← e) f
+-- a text that is put in pieces, and one that may be none: what a function that puts several names in its attribute
+pub ruleset texts = (with_text_then, with_text_none, append_assoc)
 
-pub wrote_two : {p q s : Bytes} {a b c : ℕ} {x y k l : ℕ} → x ≡ k → y ≡ l → Wrote p a (x ∷ []) q b → Wrote q b (y ∷ []) s c → Wrote p a (k ∷ (l ∷ [])) s c
-wrote_two d e f g = rw (← d, ← e) (wrote_then f g)
+-- one byte
+pub with_text_byte : (p : Page) (c : ℕ) → p.mark < length p.bytes.now → with_text p (c ∷ []) ≡ page_as p (set p.bytes.now p.mark c) (p.mark + 1)
+unfolding with_text
+with_text_byte p c h = page_with p refl (omega arith)
 
--- a turn of a loop that writes a text byte by byte
-pub wrote_turn : {p q s : Bytes} {a b c : ℕ} (l : Bytes) (i : ℕ) → i < length l → Wrote p a (take i l) q b → Wrote q b (get_or l i 0 ∷ []) s c → Wrote p a (take (i + 1) l) s c
-wrote_turn l i h f g = rw (add-one, take-suc l i 0 h) (wrote_then f g)
+-- as much of a text as there is room for, copied in one stretch
+sets_part : (p s : Bytes) (m n : ℕ) → n ≡ min (length s) (length p - m) → sets (sets p m (take n s)) (m + n) (drop n s) ≡ sets p m (take n s)
+sets_part p s m n e =
+    by_le (length s) n
+    (λ h t. rw (drop_of_length-le s h) refl)
+    (λ h t. sets_out (sets p m (take n s)) (m + n) (drop n s) (omega (arith, length-sets p m (take n s))))
 
--- and of one that writes bytes in hexadecimal
+part_filled : (p s : Bytes) (m n : ℕ) → m < length p → n ≡ min (length s) (length p - m) → put_mid m (m + n - m) p (take n s) ≡ sets p m s
+part_filled p s m n h e =
+    put_mid-paste m (m + n - m) p (take n s) (take n s) n refl (omega arith) (sym l)
+    ∙ ap (λ (x : Bytes). take m p ++ x ++ drop (m + n) p) (take_all n (take n s) (omega (arith, l)))
+    ∙ sym (rw l at (sets-eq (take n s) p m (omega (arith, l))))
+    ∙ sym (sets_part p s m n e)
+    ∙ sym (rw l at (sets_append p m (take n s) (drop n s)))
+    ∙ ap (λ (x : Bytes). sets p m x) (take-append-drop n s)
+  where
+    l : length (take n s) ≡ n
+    l = length-take-le n s (omega arith)
+
+pub with_text_part : (p : Page) (s : Bytes) (n : ℕ) → p.mark < length p.bytes.now → n ≡ min (length s) (length p.bytes.now - p.mark)
+    → with_text p s ≡ page_as p (put_mid p.mark (p.mark + n - p.mark) p.bytes.now (take n s)) (p.mark + n)
+unfolding with_text
+with_text_part p s n h e = page_with p (sym (part_filled p.bytes.now s p.mark n h e)) (omega arith)
+
+-- a turn of a loop that writes bytes in hexadecimal
 hex_append : (x y : Bytes) → hex_bytes (x ++ y) ≡ hex_bytes x ++ hex_bytes y
 unfolding hex_bytes
 hex_append [] y = refl
 hex_append (b ∷ x) y = ap (λ (l : Bytes). hex2 b ++ l) (hex_append x y) ∙ sym (append_assoc (hex2 b) (hex_bytes x) (hex_bytes y))
 
-hex_more : (l : Bytes) (i : ℕ) → i < length l → hex_bytes (take (i + 1) l) ≡ hex_bytes (take i l) ++ hex2 (get_or l i 0)
+pub hex_more : (l : Bytes) (i : ℕ) → i < length l → hex_bytes (take (i + 1) l) ≡ hex_bytes (take i l) ++ hex2 (get_or l i 0)
 unfolding hex_bytes
 hex_more l i h = rw (add-one, take-suc l i 0 h, hex_append (take i l) (get_or l i 0 ∷ []), append-nil)
 
-pub wrote_hex_turn : {p q s : Bytes} {a b c : ℕ} (l : Bytes) (i : ℕ) → i < length l → Wrote p a (hex_bytes (take i l)) q b → Wrote q b (hex2 (get_or l i 0)) s c → Wrote p a (hex_bytes (take (i + 1) l)) s c
-wrote_hex_turn l i h f g = rw (hex_more l i h) (wrote_then f g)
-
 -- what is written can be read: it stands after what stood before the mark, if there was room
-pub written : {p q : Bytes} {a b : ℕ} {x : Bytes} → a + length x ≤ length p → Wrote p a x q b → (b ≡ a + length x) × (take b q ≡ take a p ++ x)
-written {p} {q} {a} {b} {x} h f =
-    let e : b ≡ a + length x = omega (arith, f.moved) in
-    let n : length (take a p ++ x) ≡ a + length x = length-append (take a p) x ∙ ap (λ (k : ℕ). k + length x) (length-take-le a p (omega arith)) in
-    (e, rw (f.filled, e) (rw (sets-eq x p a h) (take_at (take a p ++ x) (drop (a + length x) p) (a + length x) n)))
+pub written : (p : Page) (x : Bytes) → p.mark + length x ≤ length p.bytes.now
+    → ((with_text p x).mark ≡ p.mark + length x) × (take (with_text p x).mark (with_text p x).bytes.now ≡ take p.mark p.bytes.now ++ x)
+unfolding with_text
+written p x h =
+    let e : max p.mark (min (p.mark + length x) (length p.bytes.now)) ≡ p.mark + length x = omega arith in
+    (e, rw (e, sets-eq x p.bytes.now p.mark h) (take_at (take p.mark p.bytes.now ++ x) (drop (p.mark + length x) p.bytes.now) (p.mark + length x) n))
+  where
+    n : length (take p.mark p.bytes.now ++ x) ≡ p.mark + length x
+    n = length-append (take p.mark p.bytes.now) x ∙ ap (λ (k : ℕ). k + length x) (length-take-le p.mark p.bytes.now (omega arith))

@@ -1,10 +1,17 @@
--- A page: a stretch of bytes, with a mark up to which it is written. What comes past the page's end is not
+-- A page: a lent stretch of bytes, with a mark up to which it is written. What comes past the page's end is not
 -- written.
-use Rattle.std.specs.Prelude.{◌≡◌, ℕ, ◌+◌, min, max, length}
+use Rattle.std.specs.Prelude.{◌≡◌, ◌+◌, min, max, length}
 use Rattle.std.proofs.lemmas.List.Edits.{sets}
 use Rattle.lighting_frames.specs.Paper.Frames.{Bytes}
+use Rattle.text_printing.specs.declared.Page.{Page}
 
--- the text x written on the page from the mark `at` on: what the page is then, and the new mark
-pub record Wrote (page : Bytes) (at : ℕ) (x after : Bytes) (mark : ℕ) : Type 0 where
-  pub filled : after ≡ sets page at x
-  pub moved : mark ≡ max at (min (at + length x) (length page))
+-- the page with the text x put on it from its mark on: the same bytes that were lent, and what they hold then
+unfoldable pub with_text : Page → Bytes → Page
+with_text p x = record {
+  bytes = record p.bytes { now = sets p.bytes.now p.mark x };
+  mark = max p.mark (min (p.mark + length x) (length p.bytes.now));
+}
+
+-- the text x written on the page
+abbrev pub Wrote : Page → Bytes → Page → Type 0
+Wrote page x after = after ≡ with_text page x

@@ -1,37 +1,72 @@
 // Text written on a page: a lent stretch of bytes, of which the bytes before a mark are the text so far. Each
-// function writes from a mark on and answers the new one; what comes past the page's end is not written, so
-// that none asks for room.
-#![tactic(auto)]
+// method writes from the mark on and moves it; what comes past the page's end is not written, so that none asks
+// for room.
+#![tactic(auto, using(crate::proofs::Pages::texts))]
 
-ghost use Rattle.std.specs.Prelude.{◌≡◌, ◌∷◌, [], ◌++◌, ◌+◌, ◌%◌, ◌≤◌, ◌<◌, drop, length};
+ghost use Rattle.std.specs.Prelude.{◌≡◌, ◌∷◌, [], ◌++◌, ◌+◌, ◌%◌, ◌-◌, ◌≤◌, ◌<◌, drop, take, length};
 ghost use Rattle.text_printing.specs.Page.{Wrote};
 ghost use Rattle.text_printing.specs.Writing.{hex_digit, hex2, hex4, hex8, hex_bytes, decimal, newline, value_word, refused_word, answer_line};
 
 use lighting_outputs::Answer;
 
-// ---- bytes
-
-pub fn put(page: &mut [u8], at: usize, c: u8) -> usize
-    ensures { Wrote page.old at (c ∷ []) page.new result }
-{
-    if at < page.len() {
-        page[at] = c;
-        at + 1
-    } else {
-        at
-    }
+// A page: any stretch of bytes, and any mark in it or past it.
+#[derive(Drop)]
+pub struct Page<'a> {
+    pub bytes: &'a mut [u8],
+    pub mark: usize,
 }
 
-pub fn put_all(page: &mut [u8], at: usize, s: &[u8]) -> usize
-    ensures { Wrote page.old at s.now page.new result }
-{
-    let mut mark = at;
-    let mut i: usize = 0;
-    while i < s.len() {
-        mark = put(page, mark, s[i]);
-        i += 1;
+impl<'a> Page<'a> {
+    // A page with nothing on it.
+    pub fn new(bytes: &'a mut [u8]) -> Page<'a>
+        ensures { result ≡ record { bytes = bytes.entry; mark = 0 } }
+    {
+        Page { bytes, mark: 0 }
     }
-    mark
+
+    // The text so far.
+    pub fn text(&self) -> &[u8]
+        ensures { result.now ≡ take self.now.mark self.now.bytes.now }
+    {
+        &self.bytes[..self.mark.min(self.bytes.len())]
+    }
+
+    // How many bytes are free.
+    pub fn room(&self) -> usize
+        ensures { result ≡ length self.now.bytes.now - self.now.mark }
+    {
+        self.bytes.len().saturating_sub(self.mark)
+    }
+
+    // To be written on from its start.
+    pub fn clear(&mut self)
+        ensures { self.new ≡ record self.old { mark = 0 } }
+    {
+        self.mark = 0;
+    }
+
+    // ---- bytes
+
+    #[tactic(auto, using(crate::proofs::Pages::with_text_byte, crate::proofs::Pages::with_text_out))]
+    pub fn put(&mut self, c: u8)
+        ensures { Wrote self.old (c ∷ []) self.new }
+    {
+        if self.mark < self.bytes.len() {
+            self.bytes[self.mark] = c;
+            self.mark += 1;
+        }
+    }
+
+    #[tactic(auto, using(crate::proofs::Pages::with_text_out))]
+    pub fn put_all(&mut self, s: &[u8])
+        ensures { Wrote self.old s.now self.new }
+    {
+        if self.mark < self.bytes.len() {
+            let n = s.len().min(self.bytes.len() - self.mark);
+            self.bytes[self.mark..self.mark + n].copy_from_slice(&s[..n]);
+            self.mark += n;
+        }
+    }
 }
 
 // ---- numbers
@@ -41,42 +76,7 @@ fn hex_digit(d: u8) -> u8
     requires { d < 16 }
     ensures { result ≡ hex_digit d }
 {
-    if d < 10 { 48 + d } else { 55 + d }
-}
-
-#[tactic(auto, using(crate::proofs::Pages::wrote_two), unfolding(crate::specs::Writing::hex2))]
-fn put_hex2(page: &mut [u8], at: usize, v: u8) -> usize
-    ensures { Wrote page.old at (hex2 v) page.new result }
-{
-    let mark = put(page, at, hex_digit(v / 16));
-    put(page, mark, hex_digit(v % 16))
-}
-
-fn put_hex4(page: &mut [u8], at: usize, v: u16) -> usize
-    ensures { Wrote page.old at (hex4 v) page.new result }
-{
-    let mark = put_hex2(page, at, (v / 256) as u8);
-    put_hex2(page, mark, (v % 256) as u8)
-}
-
-pub fn put_hex8(page: &mut [u8], at: usize, v: u32) -> usize
-    ensures { Wrote page.old at (hex8 v) page.new result }
-{
-    let mark = put_hex4(page, at, (v / 65536) as u16);
-    put_hex4(page, mark, (v % 65536) as u16)
-}
-
-#[tactic(auto, unfolding(crate::specs::Writing::hex_bytes))]
-pub fn put_hex_bytes(page: &mut [u8], at: usize, s: &[u8]) -> usize
-    ensures { Wrote page.old at (hex_bytes s.now) page.new result }
-{
-    let mut mark = at;
-    let mut i: usize = 0;
-    while i < s.len() {
-        mark = put_hex2(page, mark, s[i]);
-        i += 1;
-    }
-    mark
+    if d < 10 { b'0' + d } else { b'A' - 10 + d }
 }
 
 // A number's decimal digits: the bytes of `bytes` from `from` on.
@@ -116,41 +116,74 @@ fn decimal_digits(n: u64) -> Decimal
     }
 }
 
-pub fn put_decimal(page: &mut [u8], at: usize, n: u64) -> usize
-    ensures { Wrote page.old at (decimal n) page.new result }
-{
-    let d = decimal_digits(n);
-    let bytes = d.bytes;
-    let from = d.from;
-    put_all(page, at, &bytes[from..])
-}
+impl<'a> Page<'a> {
+    #[tactic(auto, using(crate::proofs::Pages::texts), unfolding(crate::specs::Writing::hex2))]
+    fn put_hex2(&mut self, v: u8)
+        ensures { Wrote self.old (hex2 v) self.new }
+    {
+        self.put(hex_digit(v / 16));
+        self.put(hex_digit(v % 16));
+    }
 
-// ---- answers
+    #[tactic(auto, using(crate::proofs::Pages::texts), unfolding(crate::specs::Writing::hex4))]
+    fn put_hex4(&mut self, v: u16)
+        ensures { Wrote self.old (hex4 v) self.new }
+    {
+        self.put_hex2((v / 256) as u8);
+        self.put_hex2((v % 256) as u8);
+    }
 
-fn put_value_line(page: &mut [u8], at: usize, v: u32) -> usize
-    ensures { Wrote page.old at (value_word ++ (hex8 v ++ newline)) page.new result }
-{
-    let word = put_all(page, at, b"Value ");
-    let digits = put_hex8(page, word, v);
-    put(page, digits, b'\n')
-}
+    #[tactic(auto, using(crate::proofs::Pages::texts), unfolding(crate::specs::Writing::hex8))]
+    pub fn put_hex8(&mut self, v: u32)
+        ensures { Wrote self.old (hex8 v) self.new }
+    {
+        self.put_hex4((v / 65536) as u16);
+        self.put_hex4((v % 65536) as u16);
+    }
 
-fn put_refused_line(page: &mut [u8], at: usize, n: u8) -> usize
-    ensures { Wrote page.old at (refused_word ++ (decimal n ++ newline)) page.new result }
-{
-    let word = put_all(page, at, b"Refused ");
-    let digits = put_decimal(page, word, n as u64);
-    put(page, digits, b'\n')
-}
+    #[tactic(auto, using(crate::proofs::Pages::texts, crate::proofs::Pages::hex_more), unfolding(crate::specs::Writing::hex_bytes))]
+    pub fn put_hex_bytes(&mut self, s: &[u8])
+        ensures { Wrote self.old (hex_bytes s.now) self.new }
+    {
+        for b in s {
+            self.put_hex2(*b);
+        }
+    }
 
-#[tactic(auto, unfolding(crate::specs::Writing::answer_line))]
-pub fn put_answer(page: &mut [u8], at: usize, a: Answer) -> usize
-    ensures { Wrote page.old at (answer_line a) page.new result }
-{
-    match a {
-        Answer::Done => put_all(page, at, b"Done\n"),
-        Answer::Value(v) => put_value_line(page, at, v),
-        Answer::Absent => put_all(page, at, b"Absent\n"),
-        Answer::Refused(n) => put_refused_line(page, at, n),
+    pub fn put_decimal(&mut self, n: u64)
+        ensures { Wrote self.old (decimal n) self.new }
+    {
+        let digits = decimal_digits(n);
+        self.put_all(&digits.bytes[digits.from..]);
+    }
+
+    // ---- answers
+
+    fn put_value_line(&mut self, v: u32)
+        ensures { Wrote self.old (value_word ++ (hex8 v ++ newline)) self.new }
+    {
+        self.put_all(b"Value ");
+        self.put_hex8(v);
+        self.put(b'\n');
+    }
+
+    fn put_refused_line(&mut self, n: u8)
+        ensures { Wrote self.old (refused_word ++ (decimal n ++ newline)) self.new }
+    {
+        self.put_all(b"Refused ");
+        self.put_decimal(u64::from(n));
+        self.put(b'\n');
+    }
+
+    #[tactic(auto, unfolding(crate::specs::Writing::answer_line))]
+    pub fn put_answer(&mut self, a: Answer)
+        ensures { Wrote self.old (answer_line a) self.new }
+    {
+        match a {
+            Answer::Done => self.put_all(b"Done\n"),
+            Answer::Value(v) => self.put_value_line(v),
+            Answer::Absent => self.put_all(b"Absent\n"),
+            Answer::Refused(n) => self.put_refused_line(n),
+        }
     }
 }
