@@ -1,7 +1,7 @@
 -- One text put on a page after another.
 use mathlib.Core.Path.{◌≡◌, refl, sym, ap, ◌∙◌}
 use mathlib.Core.List.{[], ◌∷◌, ◌++◌, append_assoc, append-nil}
-use Prim.Native.Nat.{ℕ, suc, ◌+◌, ◌-◌, ◌≤◌, ◌<◌, min, max}
+use Prim.Native.Nat.{ℕ, suc, ◌+◌, ◌-◌, ◌/◌, ◌%◌, ◌^◌, ◌≤◌, ◌<◌, min, max}
 use native.Mathlib.Omega.{arith}
 use native.Mathlib.Numerals.{add-one}
 use lib.ListN.{length, take, drop, get_or, set, length-append, drop_of_length-le}
@@ -13,7 +13,8 @@ use Rattle.lighting_frames.specs.Paper.Frames.{Bytes}
 use Rattle.lighting_levels.proofs.Split.{by_le}
 use Rattle.text_printing.specs.declared.Page.{Page}
 use Rattle.text_printing.specs.Page.{with_text}
-use Rattle.text_printing.specs.Writing.{hex2, hex_bytes}
+use Rattle.text_printing.specs.Writing.{hex2, hex4, hex8, hex_bytes}
+use Rattle.std.specs.Int.{w32, to_be_bytes}
 
 sets_append : (l : Bytes) (i : ℕ) (x y : Bytes) → sets l i (x ++ y) ≡ sets (sets l i x) (i + length x) y
 sets_append l i [] y = ap (λ (n : ℕ). sets l n y) (omega arith)
@@ -62,7 +63,7 @@ unfolding with_text
 with_text_out p x h = page_with p (sets_out p.bytes.now p.mark x h) (omega arith)
 
 -- a text that is put in pieces, and one that may be none: what a function that puts several names in its attribute
-pub ruleset texts = (with_text_then, with_text_none, append_assoc)
+pub ruleset texts = (with_text_then, with_text_none, append_assoc, append-nil)
 
 -- one byte
 pub with_text_byte : (p : Page) (c : ℕ) → p.mark < length p.bytes.now → with_text p (c ∷ []) ≡ page_as p (set p.bytes.now p.mark c) (p.mark + 1)
@@ -102,6 +103,16 @@ hex_append (b ∷ x) y = ap (λ (l : Bytes). hex2 b ++ l) (hex_append x y) ∙ s
 pub hex_more : (l : Bytes) (i : ℕ) → i < length l → hex_bytes (take (i + 1) l) ≡ hex_bytes (take i l) ++ hex2 (get_or l i 0)
 unfolding hex_bytes
 hex_more l i h = rw (add-one, take-suc l i 0 h, hex_append (take i l) (get_or l i 0 ∷ []), append-nil)
+
+-- and eight digits are those of a number's four bytes
+pub hex_octets : (v : ℕ) → v < 2 ^ 32 → hex8 v ≡ hex_bytes (to_be_bytes w32 v)
+unfolding hex8 hex4 hex2 hex_bytes
+hex_octets v h =
+    let one : v / 65536 / 256 ≡ v / 256 ^ 3 % 256 = omega arith in
+    let two : v / 65536 % 256 ≡ v / 256 ^ 2 % 256 = omega arith in
+    let three : v % 65536 / 256 ≡ v / 256 ^ 1 % 256 = omega arith in
+    let four : v % 65536 % 256 ≡ v % 256 = omega arith in
+    rw (one, two, three, four) refl
 
 -- what is written can be read: it stands after what stood before the mark, if there was room
 pub written : (p : Page) (x : Bytes) → p.mark + length x ≤ length p.bytes.now

@@ -5,7 +5,7 @@
 
 ghost use Rattle.std.specs.Prelude.{◌≡◌, ◌∷◌, [], ◌++◌, ◌+◌, ◌%◌, ◌-◌, ◌≤◌, ◌<◌, drop, take, length};
 ghost use Rattle.text_printing.specs.Page.{Wrote};
-ghost use Rattle.text_printing.specs.Writing.{hex_digit, hex2, hex4, hex8, hex_bytes, decimal, newline, value_word, refused_word, answer_line};
+ghost use Rattle.text_printing.specs.Writing.{hex_digit, hex2, hex8, hex_bytes, decimal, newline, value_word, refused_word, answer_line};
 
 use lighting_outputs::Answer;
 
@@ -101,19 +101,13 @@ fn decimal_digits(n: u64) -> Decimal
     let mut bytes = [0u8; 20];
     let mut i: usize = 19;
     let mut rest = n;
-    while 0 < i {
-        if rest < 10 {
-            break;
-        }
+    while 10 <= rest && 0 < i {
         bytes[i] = last_digit(rest);
-        rest = rest / 10;
+        rest /= 10;
         i -= 1;
     }
     bytes[i] = last_digit(rest);
-    Decimal {
-        bytes: bytes,
-        from: i,
-    }
+    Decimal { bytes, from: i }
 }
 
 impl<'a> Page<'a> {
@@ -125,22 +119,6 @@ impl<'a> Page<'a> {
         self.put(hex_digit(v % 16));
     }
 
-    #[tactic(auto, using(crate::proofs::Pages::texts), unfolding(crate::specs::Writing::hex4))]
-    fn put_hex4(&mut self, v: u16)
-        ensures { Wrote self.old (hex4 v) self.new }
-    {
-        self.put_hex2((v / 256) as u8);
-        self.put_hex2((v % 256) as u8);
-    }
-
-    #[tactic(auto, using(crate::proofs::Pages::texts), unfolding(crate::specs::Writing::hex8))]
-    pub fn put_hex8(&mut self, v: u32)
-        ensures { Wrote self.old (hex8 v) self.new }
-    {
-        self.put_hex4((v / 65536) as u16);
-        self.put_hex4((v % 65536) as u16);
-    }
-
     #[tactic(auto, using(crate::proofs::Pages::texts, crate::proofs::Pages::hex_more), unfolding(crate::specs::Writing::hex_bytes))]
     pub fn put_hex_bytes(&mut self, s: &[u8])
         ensures { Wrote self.old (hex_bytes s.now) self.new }
@@ -148,6 +126,13 @@ impl<'a> Page<'a> {
         for b in s {
             self.put_hex2(*b);
         }
+    }
+
+    #[tactic(auto, using(crate::proofs::Pages::hex_octets))]
+    pub fn put_hex8(&mut self, v: u32)
+        ensures { Wrote self.old (hex8 v) self.new }
+    {
+        self.put_hex_bytes(&v.to_be_bytes());
     }
 
     pub fn put_decimal(&mut self, n: u64)

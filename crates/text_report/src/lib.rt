@@ -1,53 +1,48 @@
 // The report for people.
-#![tactic(auto)]
+#![tactic(auto, using(text_printing::proofs::Pages::texts))]
 
 ghost use Rattle.std.specs.Prelude.{◌≡◌, ◌*◌, ◌/◌, ◌%◌};
 ghost use Rattle.text_printing.specs.Page.{Wrote};
 ghost use Rattle.text_report.specs.Report.{digit, two_digits, three_digits, lead, aligned, percent, minutes, moment, lasting, either, operation_name, until, activity_text, timer_text, light_fields, level_fields, time_fields, relay_field, way_fields, report_line, report_head};
 
 use lighting_outputs::{Activity, Operation, Output, Relay, Timer};
-use text_printing::{put, put_all, put_decimal};
+use text_printing::{Page, last_digit};
 
 // ---- numbers
 
-#[tactic(auto, unfolding(crate::specs::Report::digit))]
-fn put_digit(page: &mut [u8], at: usize, n: u64) -> usize
-    ensures { Wrote page.old at (digit n) page.new result }
+#[tactic(auto, using(text_printing::proofs::Pages::texts), unfolding(crate::specs::Report::two_digits))]
+fn put_two(page: &mut Page, n: u64)
+    ensures { Wrote page.old (two_digits n) page.new }
 {
-    put(page, at, text_printing::last_digit(n))
+    page.put(last_digit(n / 10));
+    page.put(last_digit(n));
 }
 
-fn put_two(page: &mut [u8], at: usize, n: u64) -> usize
-    ensures { Wrote page.old at (two_digits n) page.new result }
+#[tactic(auto, using(text_printing::proofs::Pages::texts), unfolding(crate::specs::Report::three_digits))]
+fn put_three(page: &mut Page, n: u64)
+    ensures { Wrote page.old (three_digits n) page.new }
 {
-    let mark = put_digit(page, at, n / 10);
-    put_digit(page, mark, n)
+    page.put(last_digit(n / 100));
+    put_two(page, n);
 }
 
-fn put_three(page: &mut [u8], at: usize, n: u64) -> usize
-    ensures { Wrote page.old at (three_digits n) page.new result }
-{
-    let mark = put_digit(page, at, n / 100);
-    put_two(page, mark, n)
-}
-
-fn put_lead(page: &mut [u8], at: usize, n: u64) -> usize
-    ensures { Wrote page.old at (lead n) page.new result }
+#[tactic(auto, using(text_printing::proofs::Pages::texts, lighting_levels::proofs::Choosing::ifs), unfolding(crate::specs::Report::lead))]
+fn put_lead(page: &mut Page, n: u64)
+    ensures { Wrote page.old (lead n) page.new }
 {
     if n < 10 {
-        put_all(page, at, b"  ")
+        page.put_all(b"  ");
     } else if n < 100 {
-        put(page, at, b' ')
-    } else {
-        at
+        page.put(b' ');
     }
 }
 
-fn put_aligned(page: &mut [u8], at: usize, n: u64) -> usize
-    ensures { Wrote page.old at (aligned n) page.new result }
+#[tactic(auto, using(text_printing::proofs::Pages::texts), unfolding(crate::specs::Report::aligned))]
+fn put_aligned(page: &mut Page, n: u64)
+    ensures { Wrote page.old (aligned n) page.new }
 {
-    let mark = put_lead(page, at, n);
-    put_decimal(page, mark, n)
+    put_lead(page, n);
+    page.put_decimal(n);
 }
 
 // Hundredths of a percent past the whole ones.
@@ -57,175 +52,169 @@ fn hundredths(u: u64) -> u64
     u % 65536 * 100 / 65536
 }
 
-fn put_percent(page: &mut [u8], at: usize, u: u32) -> usize
-    ensures { Wrote page.old at (percent u) page.new result }
+#[tactic(auto, using(text_printing::proofs::Pages::texts), unfolding(crate::specs::Report::percent))]
+fn put_percent(page: &mut Page, u: u32)
+    ensures { Wrote page.old (percent u) page.new }
 {
-    let n = u as u64;
-    let whole = put_aligned(page, at, n / 65536);
-    let dot = put(page, whole, b'.');
-    put_two(page, dot, hundredths(n))
+    let n = u64::from(u);
+    put_aligned(page, n / 65536);
+    page.put(b'.');
+    put_two(page, hundredths(n));
 }
 
-fn put_minutes(page: &mut [u8], at: usize, n: u64) -> usize
-    ensures { Wrote page.old at (minutes n) page.new result }
+#[tactic(auto, using(text_printing::proofs::Pages::texts), unfolding(crate::specs::Report::minutes))]
+fn put_minutes(page: &mut Page, n: u64)
+    ensures { Wrote page.old (minutes n) page.new }
 {
-    let first = put(page, at, b':');
-    let minutes = put_two(page, first, n / 60000 % 60);
-    let second = put(page, minutes, b':');
-    put_two(page, second, n / 1000 % 60)
+    page.put(b':');
+    put_two(page, n / 60000 % 60);
+    page.put(b':');
+    put_two(page, n / 1000 % 60);
 }
 
-fn put_moment(page: &mut [u8], at: usize, t: u64) -> usize
-    ensures { Wrote page.old at (moment t) page.new result }
+#[tactic(auto, using(text_printing::proofs::Pages::texts), unfolding(crate::specs::Report::moment))]
+fn put_moment(page: &mut Page, t: u64)
+    ensures { Wrote page.old (moment t) page.new }
 {
-    let hours = put_decimal(page, at, t / 3600000);
-    let minutes = put_minutes(page, hours, t);
-    let dot = put(page, minutes, b'.');
-    put_three(page, dot, t % 1000)
+    page.put_decimal(t / 3600000);
+    put_minutes(page, t);
+    page.put(b'.');
+    put_three(page, t % 1000);
 }
 
-fn put_lasting(page: &mut [u8], at: usize, n: u64) -> usize
-    ensures { Wrote page.old at (lasting n) page.new result }
+#[tactic(auto, using(text_printing::proofs::Pages::texts), unfolding(crate::specs::Report::lasting))]
+fn put_lasting(page: &mut Page, n: u64)
+    ensures { Wrote page.old (lasting n) page.new }
 {
-    let hours = put_aligned(page, at, n / 3600000);
-    put_minutes(page, hours, n)
+    put_aligned(page, n / 3600000);
+    put_minutes(page, n);
 }
 
 // ---- words
 
-fn put_either(page: &mut [u8], at: usize, this: &[u8], that: &[u8], b: bool) -> usize
-    ensures { Wrote page.old at (either this.now that.now b) page.new result }
+#[tactic(auto, using(text_printing::proofs::Pages::texts, lighting_levels::proofs::Choosing::ifs), unfolding(crate::specs::Report::either))]
+fn put_either(page: &mut Page, this: &[u8], that: &[u8], b: bool)
+    ensures { Wrote page.old (either this.now that.now b) page.new }
 {
-    if b {
-        put_all(page, at, this)
-    } else {
-        put_all(page, at, that)
-    }
+    page.put_all(if b { this } else { that });
 }
 
-#[tactic(auto, unfolding(crate::specs::Report::operation_name))]
-fn put_operation(page: &mut [u8], at: usize, o: Operation) -> usize
-    ensures { Wrote page.old at (operation_name o) page.new result }
+#[tactic(auto, using(text_printing::proofs::Pages::texts), unfolding(crate::specs::Report::operation_name))]
+fn operation_name(o: Operation) -> &'static [u8]
+    ensures { result.now ≡ operation_name o }
 {
     match o {
-        Operation::Stop => put_all(page, at, b"  STOP           "),
-        Operation::FadeTo(_) => put_all(page, at, b"  FADE_TO        "),
-        Operation::FadeToOver(_, _) => put_all(page, at, b"  FADE_TO_OVER   "),
-        Operation::RampTo(_) => put_all(page, at, b"  RAMP_TO        "),
-        Operation::RampToAtRate(_, _) => put_all(page, at, b"  RAMP_TO_AT_RATE"),
-        Operation::StepUp => put_all(page, at, b"  STEP_UP        "),
-        Operation::StepDown => put_all(page, at, b"  STEP_DOWN      "),
-        Operation::StepUpBy(_) => put_all(page, at, b"  STEP_UP_BY     "),
-        Operation::StepDownBy(_) => put_all(page, at, b"  STEP_DOWN_BY   "),
-        Operation::Goto(_) => put_all(page, at, b"  GOTO           "),
-        Operation::Relinquish => put_all(page, at, b"  RELINQUISH     "),
+        Operation::Stop => b"  STOP           ",
+        Operation::FadeTo(_) => b"  FADE_TO        ",
+        Operation::FadeToOver(_, _) => b"  FADE_TO_OVER   ",
+        Operation::RampTo(_) => b"  RAMP_TO        ",
+        Operation::RampToAtRate(_, _) => b"  RAMP_TO_AT_RATE",
+        Operation::StepUp => b"  STEP_UP        ",
+        Operation::StepDown => b"  STEP_DOWN      ",
+        Operation::StepUpBy(_) => b"  STEP_UP_BY     ",
+        Operation::StepDownBy(_) => b"  STEP_DOWN_BY   ",
+        Operation::Goto(_) => b"  GOTO           ",
+        Operation::Relinquish => b"  RELINQUISH     ",
     }
 }
 
 // ---- what is under way
 
-fn put_until(page: &mut [u8], at: usize, word: &[u8], t: u64) -> usize
-    ensures { Wrote page.old at (until word.now t) page.new result }
+#[tactic(auto, using(text_printing::proofs::Pages::texts), unfolding(crate::specs::Report::until))]
+fn put_until(page: &mut Page, word: &[u8], t: u64)
+    ensures { Wrote page.old (until word.now t) page.new }
 {
-    let mark = put_all(page, at, word);
-    put_moment(page, mark, t)
+    page.put_all(word);
+    put_moment(page, t);
 }
 
-#[tactic(auto, unfolding(crate::specs::Report::activity_text))]
-fn put_activity(page: &mut [u8], at: usize, a: Activity) -> usize
-    ensures { Wrote page.old at (activity_text a) page.new result }
+#[tactic(auto, using(text_printing::proofs::Pages::texts), unfolding(crate::specs::Report::activity_text))]
+fn put_activity(page: &mut Page, a: Activity)
+    ensures { Wrote page.old (activity_text a) page.new }
 {
     match a {
-        Activity::Still => at,
-        Activity::Moving(m) => put_until(page, at, b"  moving until ", m.over),
-        Activity::Warned(w) => put_until(page, at, b"  blink warning until ", w.over),
+        Activity::Still => {}
+        Activity::Moving(m) => put_until(page, b"  moving until ", m.over),
+        Activity::Warned(w) => put_until(page, b"  blink warning until ", w.over),
     }
 }
 
-#[tactic(auto, unfolding(crate::specs::Report::timer_text))]
-fn put_timer(page: &mut [u8], at: usize, t: Option<Timer>) -> usize
-    ensures { Wrote page.old at (timer_text t) page.new result }
+#[tactic(auto, using(text_printing::proofs::Pages::texts), unfolding(crate::specs::Report::timer_text))]
+fn put_timer(page: &mut Page, t: Timer)
+    ensures { Wrote page.old (timer_text t) page.new }
 {
     match t {
-        None => at,
-        Some(Timer { slot: _, due }) => put_until(page, at, b"  duration until ", due),
+        Timer::Off => {}
+        Timer::Running { slot: _, due } => put_until(page, b"  duration until ", due),
     }
 }
 
 // ---- the line of an output
 
-fn put_light_fields(page: &mut [u8], at: usize, i: u64, t: u64, o: Output) -> usize
-    ensures { Wrote page.old at (light_fields i t o) page.new result }
+#[tactic(auto, using(text_printing::proofs::Pages::texts), unfolding(crate::specs::Report::light_fields))]
+fn put_light_fields(page: &mut Page, i: u64, t: u64, o: Output)
+    ensures { Wrote page.old (light_fields i t o) page.new }
 {
-    let b = output_value::is_lit(t, o);
-    let left = put_all(page, at, b"  ");
-    let number = put_aligned(page, left, i);
-    let middle = put_all(page, number, b"  ");
-    put_either(page, middle, b"  lit  ", b"  dark ", b)
+    page.put_all(b"  ");
+    put_aligned(page, i);
+    page.put_all(b"  ");
+    put_either(page, b"  lit  ", b"  dark ", output_value::is_lit(t, o));
 }
 
-fn put_level_fields(page: &mut [u8], at: usize, t: u64, o: Output) -> usize
-    ensures { Wrote page.old at (level_fields t o) page.new result }
+#[tactic(auto, using(text_printing::proofs::Pages::texts), unfolding(crate::specs::Report::level_fields))]
+fn put_level_fields(page: &mut Page, t: u64, o: Output)
+    ensures { Wrote page.old (level_fields t o) page.new }
 {
-    let c = o.settings;
-    let s = o.slots;
-    let present = output_value::present_value(c, s);
-    let progress = output_value::progress_value(t, o);
-    let left = put_all(page, at, b"  ");
-    let first = put_percent(page, left, present);
-    let middle = put_all(page, first, b"  ");
-    let more = put_all(page, middle, b"  ");
-    put_percent(page, more, progress)
+    page.put_all(b"  ");
+    put_percent(page, output_value::present_value(o.settings, o.slots));
+    page.put_all(b"    ");
+    put_percent(page, output_value::progress_value(t, o));
 }
 
-fn put_time_fields(page: &mut [u8], at: usize, o: Output) -> usize
-    ensures { Wrote page.old at (time_fields o) page.new result }
+#[tactic(auto, using(text_printing::proofs::Pages::texts), unfolding(crate::specs::Report::time_fields))]
+fn put_time_fields(page: &mut Page, o: Output)
+    ensures { Wrote page.old (time_fields o) page.new }
 {
-    let last = o.last;
-    let operation = last.operation;
-    let left = put_all(page, at, b"  ");
-    let burning = put_lasting(page, left, o.burning);
-    put_operation(page, burning, operation)
+    page.put_all(b"  ");
+    put_lasting(page, o.burning);
+    page.put_all(operation_name(o.last.operation));
 }
 
-#[tactic(auto, unfolding(crate::specs::Report::relay_field))]
-fn put_relay(page: &mut [u8], at: usize, relay: Relay) -> usize
-    ensures { Wrote page.old at (relay_field relay) page.new result }
+#[tactic(auto, using(text_printing::proofs::Pages::texts), unfolding(crate::specs::Report::relay_field))]
+fn put_relay(page: &mut Page, relay: Relay)
+    ensures { Wrote page.old (relay_field relay) page.new }
 {
-    let on = output_relay::relay_state(relay);
-    put_either(page, at, b"  on   ", b"  off  ", on)
+    put_either(page, b"  on   ", b"  off  ", output_relay::relay_state(relay));
 }
 
-fn put_way_fields(page: &mut [u8], at: usize, o: Output) -> usize
-    ensures { Wrote page.old at (way_fields o) page.new result }
+#[tactic(auto, using(text_printing::proofs::Pages::texts), unfolding(crate::specs::Report::way_fields))]
+fn put_way_fields(page: &mut Page, o: Output)
+    ensures { Wrote page.old (way_fields o) page.new }
 {
-    let a = o.activity;
-    let t = o.timer;
-    let relay = o.relay;
-    let switched = put_relay(page, at, relay);
-    let way = put_activity(page, switched, a);
-    let timer = put_timer(page, way, t);
-    put(page, timer, b'\n')
+    put_relay(page, o.relay);
+    put_activity(page, o.activity);
+    put_timer(page, o.timer);
+    page.put(b'\n');
 }
 
-pub fn put_report_line(page: &mut [u8], at: usize, i: u64, t: u64, o: Output) -> usize
-    ensures { Wrote page.old at (report_line i t o) page.new result }
+#[tactic(auto, using(text_printing::proofs::Pages::texts), unfolding(crate::specs::Report::report_line))]
+pub fn put_report_line(page: &mut Page, i: u64, t: u64, o: Output)
+    ensures { Wrote page.old (report_line i t o) page.new }
 {
-    let light = put_light_fields(page, at, i, t, o);
-    let levels = put_level_fields(page, light, t, o);
-    let times = put_time_fields(page, levels, o);
-    put_way_fields(page, times, o)
+    put_light_fields(page, i, t, o);
+    put_level_fields(page, t, o);
+    put_time_fields(page, o);
+    put_way_fields(page, o);
 }
 
-pub fn put_report_head(page: &mut [u8], at: usize, t: u64) -> usize
-    ensures { Wrote page.old at (report_head t) page.new result }
+#[tactic(auto, using(text_printing::proofs::Pages::texts), unfolding(crate::specs::Report::report_head))]
+pub fn put_report_head(page: &mut Page, t: u64)
+    ensures { Wrote page.old (report_head t) page.new }
 {
-    let word = put_all(page, at, b"panel time ");
-    let time = put_moment(page, word, t);
-    let end = put(page, time, b'\n');
-    put_all(
-        page,
-        end,
+    page.put_all(b"panel time ");
+    put_moment(page, t);
+    page.put(b'\n');
+    page.put_all(
         b"output  light  present  progress    burning  last command     relay  under way\n",
-    )
+    );
 }

@@ -2,12 +2,12 @@ use Rattle.std.proofs.Common.{◌≡◌, ◌++◌, ◌+◌, ◌≤◌, drop, len
 use Rattle.text_printing.specs.Writing.{decimal_by, decimal}
 use Rattle.text_printing.proofs.decimal_digits.Given as goal
 
-abbrev pub invariant-loop-i : goal.invariant-loop-i
-invariant-loop-i l = record {
+abbrev pub invariant-loop-rest : goal.invariant-loop-rest
+invariant-loop-rest l = record {
   within : l.i ≤ 19;
   room : length l.bytes ≡ 20;
   digits : decimal_by l.i l.rest ++ drop (l.i + 1) l.bytes ≡ decimal l.n;
 }
 
-abbrev pub decreases-loop-i : goal.decreases-loop-i
-decreases-loop-i l = l.i
+abbrev pub decreases-loop-rest : goal.decreases-loop-rest
+decreases-loop-rest l = l.i
