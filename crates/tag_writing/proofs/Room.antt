@@ -1,5 +1,5 @@
 -- That 17 bytes hold every command, and what they are then.
-use mathlib.Core.Path.{◌≡◌, ap, ◌∙◌}
+use mathlib.Core.Path.{◌≡◌, refl, ap, ◌∙◌}
 use mathlib.Core.List.{List, ◌++◌}
 use Prim.Native.Nat.{ℕ, zero, suc, ◌+◌, ◌-◌, ◌≤◌}
 use native.Mathlib.Omega.{arith}
@@ -12,7 +12,9 @@ use Rattle.lighting_frames.specs.declared.TagFields.{TagFields}
 use Rattle.lighting_frames.specs.declared.TaggedBody.{TaggedBody}
 use Rattle.lighting_frames.proofs.Tagging.Bodies.{sizes_written}
 use Rattle.lighting_frames.proofs.Tagging.Commands.{real_size, whole_size, sizes_most}
-use Rattle.text_printing.specs.Page.{Wrote}
+use Rattle.text_printing.specs.declared.Page.{Page}
+use Rattle.text_printing.specs.Page.{with_text, Wrote}
+use base.Fml.{GName}
 
 -- NO FIELD is of more than four octets
 module _ (k : Command) {f : TagFields} (e : f ≡ command_tags k) where
@@ -51,17 +53,30 @@ drop_replicate zero m = let all : m - 0 ≡ m = omega arith in rw all
 drop_replicate (suc n) zero = let none : 0 - suc n ≡ 0 = omega arith in rw none
 drop_replicate (suc n) (suc m) = let fewer : suc m - suc n ≡ m - n = omega arith in rw fewer (drop_replicate n m)
 
-module _ {x after : List ℕ} {mark : ℕ} (room : length x ≤ 17) (wrote : Wrote (replicate 17 0) 0 x after mark) where
-  after_filled : after ≡ zero_filled x
-  unfolding zero_filled
-  after_filled =
+module _ (k : Command) {p q : Page} {ref : ℕ × ℕ} {name : GName}
+    (blank : p ≡ record { bytes = record { ref_ptr = ref; ghost_name = name; now = replicate 17 0 }; mark = 0 })
+    (wrote : Wrote p (tag_bytes (command_tags k)) q) where
+  filled : q.bytes.now ≡ zero_filled (tag_bytes (command_tags k))
+  unfolding with_text zero_filled
+  filled =
+      let x : List ℕ = tag_bytes (command_tags k) in
       let start : 0 + length x ≡ length x = omega arith in
-      wrote.filled ∙ sets-eq x (replicate 17 0) 0 (omega arith) ∙ ap (λ (rest : List ℕ). x ++ rest) (rw start (drop_replicate (length x) 17))
+      let room : length x ≤ 17 = command_most k in
+      rw (wrote, blank)
+      (sets-eq x (replicate 17 0) 0 (omega arith) ∙ ap (λ (rest : List ℕ). x ++ rest) (rw start (drop_replicate (length x) 17)))
 
-  mark_length : mark ≡ length x
-  mark_length = omega (arith, wrote.moved)
+  moved : q.mark ≡ length (tag_bytes (command_tags k))
+  unfolding with_text
+  moved = rw (wrote, blank) (omega (arith, command_most k))
 
-pub body_written : (k : Command) {after : List ℕ} {mark : ℕ} → Wrote (replicate 17 0) 0 (tag_bytes (command_tags k)) after mark
-    → ◌≡◌ {A = TaggedBody} (record { length = mark; bytes = after }) (tagged_body k)
-unfolding tagged_body
-body_written k wrote = rw (mark_length (command_most k) wrote, after_filled (command_most k) wrote)
+  lent : name ≡ q.bytes.ghost_name
+  unfolding with_text
+  lent = rw (wrote, blank) refl
+
+  pub body_most : q.mark ≤ 17
+  body_most = omega (arith, moved, command_most k)
+
+  -- what the one who lent the bytes finds in them
+  pub body_written : {bytes : List ℕ} → (name ≡ q.bytes.ghost_name → bytes ≡ q.bytes.now) → ◌≡◌ {A = TaggedBody} (record { length = q.mark; bytes = bytes }) (tagged_body k)
+  unfolding tagged_body
+  body_written back = rw (back lent, filled, moved) refl
