@@ -1,6 +1,6 @@
 -- The bytes of a command in tags, which its writer leaves before the zeros, and the line that spells them.
 use mathlib.Core.Path.{◌≡◌}
-use Prim.Native.Nat.{◌-◌, ◌≤◌}
+use Prim.Native.Nat.{ℕ, ◌-◌, ◌≤◌}
 use native.Mathlib.Omega.{arith}
 use lib.ListN.{length, take, replicate, length-append, length-replicate}
 use lib.Seq.{take-append_seam}
@@ -16,11 +16,10 @@ module _ (k : Command) (r : TaggedBody) (e : r ≡ tagged_body k) where
   unfolding tagged_body zero_filled
   own_end = rw e (command_most k, simp (length-append, length-replicate) (omega (arith, command_most k)))
 
-  pub own_bytes : take (r.length - 0) r.bytes ≡ tag_bytes (command_tags k)
+  pub own_bytes : (n : ℕ) → n ≡ r.length → take n r.bytes ≡ tag_bytes (command_tags k)
   unfolding tagged_body zero_filled
-  own_bytes =
-      let n : r.length - 0 ≡ r.length = omega arith in
-      rw (n, e) (take-append_seam (tag_bytes (command_tags k)) (replicate (most_tagged - length (tag_bytes (command_tags k))) 0))
+  own_bytes n f =
+      rw (f, e) (take-append_seam (tag_bytes (command_tags k)) (replicate (most_tagged - length (tag_bytes (command_tags k))) 0))
 
 -- two digits for each of 17 bytes at most
 pub tagged_length : (k : Command) → length (tagged_line k) ≤ 42
