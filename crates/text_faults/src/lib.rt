@@ -1,94 +1,98 @@
 // The line that says what is wrong with a list.
-#![tactic(auto)]
+#![tactic(auto, using(text_printing::proofs::Pages::texts))]
 
+ghost use Rattle.std.specs.Prelude.{◌≡◌};
 ghost use Rattle.text_printing.specs.Page.{Wrote};
 ghost use Rattle.text_heading.specs.Words.{letters};
 ghost use Rattle.text_faults.specs.Faults.{bounds_words, outside_words, heading_words, fault_words, placed, fault_line, ended_line};
 
 use text_heading::{Bounds, HeadingFault, Word};
-use text_printing::{put, put_all, put_decimal};
+use text_printing::Page;
 use text_reading::Fault;
 
-fn put_placed(page: &mut [u8], at: usize, k: u64) -> usize
-    ensures { Wrote page.old at (placed k) page.new result }
+#[tactic(auto, using(text_printing::proofs::Pages::texts), unfolding(crate::specs::Faults::placed))]
+fn put_placed(page: &mut Page, k: u64)
+    ensures { Wrote page.old (placed k) page.new }
 {
-    let word = put_all(page, at, b"line ");
-    let number = put_decimal(page, word, k);
-    put_all(page, number, b": ")
+    page.put_all(b"line ");
+    page.put_decimal(k);
+    page.put_all(b": ");
 }
 
-#[tactic(auto, unfolding(text_heading::specs::Words::letters))]
-fn put_word(page: &mut [u8], at: usize, w: Word) -> usize
-    ensures { Wrote page.old at (letters w) page.new result }
+#[tactic(auto, using(text_printing::proofs::Pages::texts), unfolding(text_heading::specs::Words::letters))]
+fn letters(w: Word) -> &'static [u8]
+    ensures { result.now ≡ letters w }
 {
     match w {
-        Word::Outputs => put_all(page, at, b"outputs"),
-        Word::Stations => put_all(page, at, b"stations"),
-        Word::Fade => put_all(page, at, b"fade"),
-        Word::Duration => put_all(page, at, b"duration"),
-        Word::Tenants => put_all(page, at, b"tenants"),
+        Word::Outputs => b"outputs",
+        Word::Stations => b"stations",
+        Word::Fade => b"fade",
+        Word::Duration => b"duration",
+        Word::Tenants => b"tenants",
     }
 }
 
-fn put_bounds(page: &mut [u8], at: usize, b: Bounds) -> usize
-    ensures { Wrote page.old at (bounds_words b) page.new result }
+#[tactic(auto, using(text_printing::proofs::Pages::texts), unfolding(crate::specs::Faults::bounds_words))]
+fn put_bounds(page: &mut Page, b: Bounds)
+    ensures { Wrote page.old (bounds_words b) page.new }
 {
-    let least = put_decimal(page, at, b.least as u64);
-    let word = put_all(page, least, b" to ");
-    put_decimal(page, word, b.most as u64)
+    page.put_decimal(u64::from(b.least));
+    page.put_all(b" to ");
+    page.put_decimal(u64::from(b.most));
 }
 
 // A number out of range: its word, its range, and the refusal of such a start.
-fn put_outside(page: &mut [u8], at: usize, w: Word) -> usize
-    ensures { Wrote page.old at (outside_words w) page.new result }
+#[tactic(auto, using(text_printing::proofs::Pages::texts), unfolding(crate::specs::Faults::outside_words))]
+fn put_outside(page: &mut Page, w: Word)
+    ensures { Wrote page.old (outside_words w) page.new }
 {
-    let before = put_all(page, at, b"`");
-    let word = put_word(page, before, w);
-    let after = put_all(page, word, b"` is to be ");
-    let range = put_bounds(page, after, text_heading::words::bounds(w));
-    put_all(page, range, b": Refused 17")
+    page.put(b'`');
+    page.put_all(letters(w));
+    page.put_all(b"` is to be ");
+    put_bounds(page, text_heading::words::bounds(w));
+    page.put_all(b": Refused 17");
 }
 
-#[tactic(auto, unfolding(crate::specs::Faults::heading_words))]
-fn put_heading_words(page: &mut [u8], at: usize, f: HeadingFault) -> usize
-    ensures { Wrote page.old at (heading_words f) page.new result }
+#[tactic(auto, using(text_printing::proofs::Pages::texts), unfolding(crate::specs::Faults::heading_words))]
+fn put_heading_words(page: &mut Page, f: HeadingFault)
+    ensures { Wrote page.old (heading_words f) page.new }
 {
     match f {
-        HeadingFault::NoOutputs => put_all(page, at, b"the first line is to be `outputs N`"),
-        HeadingFault::BadCount => put_all(page, at, b"N is to be 1 to 64"),
-        HeadingFault::BadWord => put_all(
-            page,
-            at,
+        HeadingFault::NoOutputs => page.put_all(b"the first line is to be `outputs N`"),
+        HeadingFault::BadCount => page.put_all(b"N is to be 1 to 64"),
+        HeadingFault::BadWord => page.put_all(
             b"after `outputs N` may come `stations S`, `fade F`, `duration D` and `tenants HEX`, each once",
         ),
-        HeadingFault::BadMarks => put_all(page, at, b"HEX is to be 1 to 8 hexadecimal digits"),
-        HeadingFault::Outside(w) => put_outside(page, at, w),
+        HeadingFault::BadMarks => page.put_all(b"HEX is to be 1 to 8 hexadecimal digits"),
+        HeadingFault::Outside(w) => put_outside(page, w),
     }
 }
 
-#[tactic(auto, unfolding(crate::specs::Faults::fault_words))]
-fn put_fault_words(page: &mut [u8], at: usize, f: Fault) -> usize
-    ensures { Wrote page.old at (fault_words f) page.new result }
+#[tactic(auto, using(text_printing::proofs::Pages::texts), unfolding(crate::specs::Faults::fault_words))]
+fn put_fault_words(page: &mut Page, f: Fault)
+    ensures { Wrote page.old (fault_words f) page.new }
 {
     match f {
-        Fault::InHeading(h) => put_heading_words(page, at, h),
-        Fault::NoDigit => put_all(page, at, b"a character that is no hexadecimal digit"),
-        Fault::HalfByte => put_all(page, at, b"half a byte"),
+        Fault::InHeading(h) => put_heading_words(page, h),
+        Fault::NoDigit => page.put_all(b"a character that is no hexadecimal digit"),
+        Fault::HalfByte => page.put_all(b"half a byte"),
     }
 }
 
-pub fn put_fault(page: &mut [u8], at: usize, k: u64, f: Fault) -> usize
-    ensures { Wrote page.old at (fault_line k f) page.new result }
+#[tactic(auto, using(text_printing::proofs::Pages::texts), unfolding(crate::specs::Faults::fault_line))]
+pub fn put_fault(page: &mut Page, k: u64, f: Fault)
+    ensures { Wrote page.old (fault_line k f) page.new }
 {
-    let place = put_placed(page, at, k);
-    let words = put_fault_words(page, place, f);
-    put(page, words, b'\n')
+    put_placed(page, k);
+    put_fault_words(page, f);
+    page.put(b'\n');
 }
 
-pub fn put_ended(page: &mut [u8], at: usize, k: u64) -> usize
-    ensures { Wrote page.old at (ended_line k) page.new result }
+#[tactic(auto, using(text_printing::proofs::Pages::texts), unfolding(crate::specs::Faults::ended_line))]
+pub fn put_ended(page: &mut Page, k: u64)
+    ensures { Wrote page.old (ended_line k) page.new }
 {
-    let place = put_placed(page, at, k);
-    let words = put_all(page, place, b"the list ends before `outputs N`");
-    put(page, words, b'\n')
+    put_placed(page, k);
+    page.put_all(b"the list ends before `outputs N`");
+    page.put(b'\n');
 }

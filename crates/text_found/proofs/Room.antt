@@ -27,13 +27,15 @@ use Rattle.lighting_outputs.specs.declared.Timer.{Timer}
 use Rattle.lighting_levels.proofs.Split.{by_bool, by_lt}
 use Rattle.text_printing.specs.Text.{text}
 use Rattle.text_printing.specs.Writing.{answer_line}
-use Rattle.text_printing.specs.Page.{Wrote}
+use Rattle.text_printing.specs.declared.Page.{Page}
+use Rattle.text_printing.specs.Page.{with_text}
 use Rattle.text_printing.proofs.Lengths.{decimal_length, hex_length, answer_length}
-use Rattle.text_printing.proofs.Pages.{wrote_then, written}
+use Rattle.text_printing.proofs.Pages.{with_text_then, length_with_text, written}
 use Rattle.text_block.specs.Block.{level_field, slot_level, slot_field, slot_fields, hex_field, answer_field, property_field, property_fields, number_line, slots_line, present_line, progress_line, process_line, properties_line, lines, joined, block}
 use Rattle.text_block.proofs.Tagged.{tagged_length}
 use Rattle.text_report.specs.Report.{two_digits, three_digits, lead, aligned, percent, minutes, moment, lasting, either, operation_name, until, activity_text, timer_text, light_fields, level_fields, time_fields, relay_field, way_fields, report_line, report_head}
-use Rattle.text_found.specs.Found.{found_head, found_output, roomy, marked, Sheet, with_text, with_room, with_output, with_outputs}
+use Rattle.text_found.specs.Found.{found_head, found_output, roomy, marked, with_room, with_output, with_outputs}
+use Rattle.text_found.proofs.Partly.{last_output}
 
 -- A BLOCK: ten lines, 735 bytes at most
 number_line_lem : (word : Bytes) (n : ℕ) → length (number_line word n) ≤ length word + 21
@@ -182,50 +184,34 @@ marked_free size at h =
     (λ l e. rw e (by_lt 1024 (size - at) (λ m f. rw f (omega arith)) (λ m f. rw f (omega arith))))
     (λ l e. rw e (omega arith))
 
--- a text put on a sheet was written as `Wrote` has it
-wrote_text : (s : Sheet) (x : Bytes) → Wrote s.bytes s.mark x (with_text s x).bytes (with_text s x).mark
-unfolding with_text
-wrote_text s x = record { filled = refl; moved = refl }
-
-module _ (s : Sheet) (h : 1024 < length s.bytes) where
-  -- what was written on the sheet with room, and fits 1,024 bytes, stands whole after what stood before the
-  -- mark
-  whole : {q x : Bytes} {b : ℕ} → length x ≤ 1024 → Wrote (with_room s).bytes (with_room s).mark x q b → take b q ≡ take (with_room s).mark s.bytes ++ x
+module _ (s : Page) (h : 1024 < length s.bytes.now) where
+  -- what was written on the page with room, and fits 1,024 bytes, stands whole after what stood before the mark
+  whole : (x : Bytes) → length x ≤ 1024 → take (with_text (with_room s) x).mark (with_text (with_room s) x).bytes.now ≡ take (with_room s).mark s.bytes.now ++ x
   unfolding with_room
-  whole l f = (written (omega (arith, marked_free (length s.bytes) s.mark h)) f).1
+  whole x l = (written (with_room s) x (omega (arith, marked_free (length s.bytes.now) s.mark h))).1
 
   -- WHAT IS FOUND OF AN OUTPUT stands whole
   pub stands_whole : (report : Bool) (t i : ℕ) (o : Output)
-      → take (with_output s report t i o).mark (with_output s report t i o).bytes ≡ take (with_room s).mark s.bytes ++ found_output report i t o
+      → take (with_output s report t i o).mark (with_output s report t i o).bytes.now ≡ take (with_room s).mark s.bytes.now ++ found_output report i t o
   unfolding with_output
-  stands_whole report t i o = whole (output_fits report i t o) (wrote_text (with_room s) (found_output report i t o))
+  stands_whole report t i o = whole (found_output report i t o) (output_fits report i t o)
 
   -- and so does the head after the line of the last answer
-  pub head_stands_whole : (a : Answer) (report : Bool) (t : ℕ) (r : Sheet) → r ≡ with_text (with_text (with_room s) (answer_line a)) (found_head report t)
-      → take r.mark r.bytes ≡ take (with_room s).mark s.bytes ++ (answer_line a ++ found_head report t)
-  head_stands_whole a report t r e =
-      rw e
-      (whole (head_fits a report t) (wrote_then (wrote_text (with_room s) (answer_line a)) (wrote_text (with_text (with_room s) (answer_line a)) (found_head report t))))
+  pub head_stands_whole : (a : Answer) (report : Bool) (t : ℕ) (r : Page) → r ≡ with_text (with_text (with_room s) (answer_line a)) (found_head report t)
+      → take r.mark r.bytes.now ≡ take (with_room s).mark s.bytes.now ++ (answer_line a ++ found_head report t)
+  head_stands_whole a report t r e = rw (e, with_text_then) (whole (answer_line a ++ found_head report t) (head_fits a report t))
 
 -- EACH OF THE OUTPUTS: a page keeps its size, and the last of a list is put on what the others leave
-same_size : (report : Bool) (t i : ℕ) (s : Sheet) (l : List Output) → length (with_outputs s report t i l).bytes ≡ length s.bytes
-unfolding with_outputs with_output with_text with_room
+same_size : (report : Bool) (t i : ℕ) (s : Page) (l : List Output) → length (with_outputs s report t i l).bytes.now ≡ length s.bytes.now
+unfolding with_outputs with_output with_room
 same_size report t i s [] = refl
 same_size report t i s (o ∷ l) =
     same_size report t (suc i) (with_output s report t i o) l
-    ∙ length-sets s.bytes (with_room s).mark (found_output report i t o)
+    ∙ length_with_text (with_room s) (found_output report i t o)
 
-last_output : (report : Bool) (t i : ℕ) (s : Sheet) (l : List Output) (o : Output)
-    → with_outputs s report t i (l ++ (o ∷ [])) ≡ with_output (with_outputs s report t i l) report t (i + length l) o
-unfolding with_outputs
-last_output report t i s [] o = ap (λ (k : ℕ). with_output s report t k o) (omega arith)
-last_output report t i s (x ∷ l) o =
-    last_output report t (suc i) (with_output s report t i x) l o
-    ∙ ap (λ (k : ℕ). with_output (with_outputs (with_output s report t i x) report t (suc i) l) report t k o) (omega arith)
-
-pub each_stands_whole : (report : Bool) (t i : ℕ) (s q r : Sheet) (l : List Output) (o : Output) → 1024 < length s.bytes
+pub each_stands_whole : (report : Bool) (t i : ℕ) (s q r : Page) (l : List Output) (o : Output) → 1024 < length s.bytes.now
     → q ≡ with_outputs s report t i l → r ≡ with_outputs s report t i (l ++ (o ∷ []))
-    → take r.mark r.bytes ≡ take (with_room q).mark q.bytes ++ found_output report (i + length l) t o
+    → take r.mark r.bytes.now ≡ take (with_room q).mark q.bytes.now ++ found_output report (i + length l) t o
 each_stands_whole report t i s q r l o h d e =
-    let long : 1024 < length q.bytes = rw d (omega (arith, same_size report t i s l)) in
+    let long : 1024 < length q.bytes.now = rw d (omega (arith, same_size report t i s l)) in
     rw (e, last_output report t i s l o, ← d) (stands_whole q long report t (i + length l) o)
