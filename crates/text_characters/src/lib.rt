@@ -9,34 +9,19 @@ ghost use Rattle.text_characters.specs.Characters.{is_blank, hex_value, byte_pai
 pub fn is_blank(c: u8) -> bool
     ensures { result ≡ is_blank c }
 {
-    if c == b' ' {
-        true
-    } else if c == b'\t' {
-        true
-    } else {
-        c == b'\r'
-    }
+    c == b' ' || c == b'\t' || c == b'\r'
 }
 
-// What a hexadecimal digit of either case is worth, and 16 for any other character.
+// What a hexadecimal digit of either case is worth; any other character is none.
 #[tactic(auto, using(lighting_levels::proofs::Choosing::ifs), unfolding(crate::specs::Characters::hex_value))]
-pub fn hex_value(c: u8) -> u8
+pub fn hex_value(c: u8) -> Option<u8>
     ensures { result ≡ hex_value c }
 {
-    if c < 48 {
-        16
-    } else if c < 58 {
-        c - 48
-    } else if c < 65 {
-        16
-    } else if c < 71 {
-        c - 55
-    } else if c < 97 {
-        16
-    } else if c < 103 {
-        c - 87
-    } else {
-        16
+    match c {
+        b'0'..=b'9' => Some(c - b'0'),
+        b'A'..=b'F' => Some(c - b'A' + 10),
+        b'a'..=b'f' => Some(c - b'a' + 10),
+        _ => None,
     }
 }
 

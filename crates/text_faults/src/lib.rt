@@ -1,12 +1,10 @@
 // The line that says what is wrong with a list.
 #![tactic(auto, using(text_printing::proofs::Pages::texts))]
 
-ghost use Rattle.std.specs.Prelude.{◌≡◌};
 ghost use Rattle.text_printing.specs.Page.{Wrote};
-ghost use Rattle.text_heading.specs.Words.{letters};
 ghost use Rattle.text_faults.specs.Faults.{bounds_words, outside_words, heading_words, fault_words, placed, fault_line, ended_line};
 
-use text_heading::{Bounds, HeadingFault, Word};
+use text_heading::{Bounds, HeadingFault, Word, words};
 use text_printing::Page;
 use text_reading::Fault;
 
@@ -17,19 +15,6 @@ fn put_placed(page: &mut Page, k: u64)
     page.put_all(b"line ");
     page.put_decimal(k);
     page.put_all(b": ");
-}
-
-#[tactic(auto, using(text_printing::proofs::Pages::texts), unfolding(text_heading::specs::Words::letters))]
-fn letters(w: Word) -> &'static [u8]
-    ensures { result.now ≡ letters w }
-{
-    match w {
-        Word::Outputs => b"outputs",
-        Word::Stations => b"stations",
-        Word::Fade => b"fade",
-        Word::Duration => b"duration",
-        Word::Tenants => b"tenants",
-    }
 }
 
 #[tactic(auto, using(text_printing::proofs::Pages::texts), unfolding(crate::specs::Faults::bounds_words))]
@@ -47,9 +32,9 @@ fn put_outside(page: &mut Page, w: Word)
     ensures { Wrote page.old (outside_words w) page.new }
 {
     page.put(b'`');
-    page.put_all(letters(w));
+    page.put_all(words::letters(w));
     page.put_all(b"` is to be ");
-    put_bounds(page, text_heading::words::bounds(w));
+    put_bounds(page, words::bounds(w));
     page.put_all(b": Refused 17");
 }
 

@@ -8,12 +8,13 @@ use native.Mathlib.Omega.{arith}
 use Rattle.lighting_levels.specs.Paper.Choice.{when◌then◌else◌}
 use Rattle.lighting_frames.specs.Paper.Frames.{Bytes}
 use Rattle.lighting_levels.proofs.Split.{by_eq, eq_of, leb_yes, leb_no}
+use Rattle.std.specs.Prelude.{Some, None}
 use Rattle.text_characters.specs.Characters.{is_blank, hex_value}
 use Rattle.text_heading.specs.Heading.{run}
 use Rattle.text_heading.specs.Spelling.{Unbroken, nothing, char, Blanks, no_blank, one_blank, Digit, figure, upper, lower}
 
 -- CHARACTERS. A blank is worth no digit, and is no newline
-pub blank_worth : (c : ℕ) → is_blank c ≡ true → hex_value c ≡ 16
+pub blank_worth : (c : ℕ) → is_blank c ≡ true → hex_value c ≡ None
 unfolding is_blank hex_value when◌then◌else◌
 blank_worth c e =
     by_eq c 32
@@ -28,20 +29,20 @@ pub no_newline : (c : ℕ) → 10 < c → c ≢ 10
 no_newline c h e = omega (arith, e)
 
 -- a digit is worth its number
-pub worth : {d c : ℕ} → Digit d c → hex_value c ≡ d
+pub worth : {d c : ℕ} → Digit d c → hex_value c ≡ Some d
 unfolding hex_value when◌then◌else◌
 worth (figure {d} h) =
     rw (
       leb_no {a = suc (48 + d)} {b = 48} (omega arith),
       leb_yes {a = suc (48 + d)} {b = 58} (omega arith),
-    ) (omega arith)
+    ) (ap Some (omega arith))
 worth (upper {d} h) =
     rw (
       leb_no {a = suc (65 + d)} {b = 48} (omega arith),
       leb_no {a = suc (65 + d)} {b = 58} (omega arith),
       leb_no {a = suc (65 + d)} {b = 65} (omega arith),
       leb_yes {a = suc (65 + d)} {b = 71} (omega arith),
-    ) (omega arith)
+    ) (ap Some (omega arith))
 worth (lower {d} h) =
     rw (
       leb_no {a = suc (97 + d)} {b = 48} (omega arith),
@@ -50,7 +51,7 @@ worth (lower {d} h) =
       leb_no {a = suc (97 + d)} {b = 71} (omega arith),
       leb_no {a = suc (97 + d)} {b = 97} (omega arith),
       leb_yes {a = suc (97 + d)} {b = 103} (omega arith),
-    ) (omega arith)
+    ) (ap Some (omega arith))
 
 pub small : {d c : ℕ} → Digit d c → d < 16
 small (figure h) = omega arith

@@ -1,4 +1,3 @@
-pub mod Laws
 pub mod Letters
 pub mod Range
 pub mod Leads

@@ -12,7 +12,7 @@ use Rattle.lighting_frames.specs.Paper.Frames.{Bytes}
 use Rattle.lighting_levels.proofs.Split.{by_bool, leb_yes, le_of, also_both}
 use Rattle.text_characters.specs.Characters.{is_blank}
 use Rattle.text_heading.specs.Words.{letters, base, may_follow, number_in, set_with, marks_with, with_number, has_come, with_come}
-use Rattle.text_heading.specs.Heading.{left_out, none_came, fresh_heading, with_place, lettered, takes_digit, counted, counted_on, gapped, numbered, marked, word_begun, trailed, step_at, heading_step, read, run, judged, ended_at, ended}
+use Rattle.text_heading.specs.Heading.{left_out, none_came, fresh_heading, with_place, lettered_by, lettered, takes_digit, digit_of, counted, counted_on, gapped_by, gapped, numbered_by, numbered, marked, word_begun, trailed, step_at, heading_step, read, run, judged, ended_at, ended}
 use Rattle.text_heading.specs.Spelling.{Unbroken, nothing, char, Blanks, no_blank, one_blank, Digit, Writes, no_digit, one_digit, Says, says, Further, no_more, one_more, Names, names}
 use Rattle.text_heading.specs.declared.Word.{Word}
 use Rattle.text_heading.specs.declared.Word.TheVariants.{Outputs, Stations, Fade, Duration, Tenants}
@@ -45,15 +45,6 @@ unbroken_letters Fade = unbroken_past _ refl
 unbroken_letters Duration = unbroken_past _ refl
 unbroken_letters Tenants = unbroken_past _ refl
 
--- a blank is no digit of any word's number
-blank_untaken : (w : Word) (k : ℕ) → takes_digit w k 16 ≡ false
-unfolding takes_digit base when◌then◌else◌
-blank_untaken Outputs k = refl
-blank_untaken Stations k = refl
-blank_untaken Fade k = refl
-blank_untaken Duration k = refl
-blank_untaken Tenants k = refl
-
 -- the letters of a further word are read after a number
 abbrev Spelt : Named → Came → Word → Type 0
 Spelt p m w = run read (line p m Trail) (letters w) ≡ line p (with_come w m) (Letters w (length (letters w)))
@@ -68,14 +59,14 @@ module _ (p : Named) (m : Came) where
       (line p m (Letters Outputs (length (letters Outputs))))
   first_word =
       record {
-        comes = unfold run read heading_step step_at lettered with_place letters is_blank when◌then◌else◌ in refl;
+        comes = unfold run read heading_step step_at lettered lettered_by with_place letters is_blank when◌then◌else◌ in refl;
         whole = unbroken_letters Outputs;
       }
 
   spelt_on :
       (w : Word) → has_come w m ≡ false →
       run read (line p m Trail) (letters w) ≡ line p (with_come w m) (Letters w (length (letters w)))
-  unfolding run read heading_step step_at trailed word_begun marked lettered with_place letters has_come is_blank when◌then◌else◌
+  unfolding run read heading_step step_at trailed word_begun marked lettered lettered_by with_place letters has_come is_blank when◌then◌else◌
   spelt_on Outputs h = absurd (false≢true (sym h))
   spelt_on Stations h = subst (λ (b : Bool). Spelt p (came b m.fade m.duration m.tenants) Stations) (sym h) refl
   spelt_on Fade h = subst (λ (b : Bool). Spelt p (came m.stations b m.duration m.tenants) Fade) (sym h) refl
@@ -91,7 +82,7 @@ module _ (p : Named) (m : Came) where
   first_gap :
       (w : Word) (c : ℕ) → is_blank c ≡ true →
       read (line p m (Letters w (length (letters w)))) c ≡ line p m (Gap w)
-  unfolding read heading_step step_at lettered with_place letters when◌then◌else◌
+  unfolding read heading_step step_at lettered lettered_by with_place letters when◌then◌else◌
   first_gap Outputs c e = rw e
   first_gap Stations c e = rw e
   first_gap Fade c e = rw e
@@ -99,8 +90,8 @@ module _ (p : Named) (m : Came) where
   first_gap Tenants c e = rw e
 
   further_gap : (w : Word) (c : ℕ) → is_blank c ≡ true → read (line p m (Gap w)) c ≡ line p m (Gap w)
-  unfolding read heading_step step_at gapped when◌then◌else◌
-  further_gap w c e = rw (blank_worth c e, blank_untaken w 0, e)
+  unfolding read heading_step step_at gapped gapped_by digit_of when◌then◌else◌
+  further_gap w c e = rw (blank_worth c e, e)
 
   gap :
       (w : Word) {c : ℕ} {x : Bytes} → Blanks (c ∷ x) →
@@ -109,8 +100,8 @@ module _ (p : Named) (m : Came) where
 
   -- and after a number
   first_trail : (w : Word) (k c : ℕ) → is_blank c ≡ true → read (line p m (Number w k)) c ≡ line p m Trail
-  unfolding read heading_step step_at numbered with_place when◌then◌else◌
-  first_trail w k c e = rw (blank_worth c e, blank_untaken w k, e)
+  unfolding read heading_step step_at numbered numbered_by digit_of with_place when◌then◌else◌
+  first_trail w k c e = rw (blank_worth c e, e)
 
   further_trail : (c : ℕ) → is_blank c ≡ true → read (line p m Trail) c ≡ line p m Trail
   unfolding read heading_step step_at trailed when◌then◌else◌
@@ -179,14 +170,14 @@ module _ (p : Named) (m : Came) (w : Word) where
   first_digit :
       {d c : ℕ} → may_follow w 0 ≡ true → Digit d c → d < base w →
       read (line p m (Gap w)) c ≡ line (with_number w (cap (base w * 0 + d)) p) m (Number w 1)
-  unfolding read heading_step step_at gapped takes_digit counted when◌then◌else◌
+  unfolding read heading_step step_at gapped gapped_by digit_of takes_digit counted when◌then◌else◌
   first_digit {d} f g l = rw (worth g, leb_yes {a = suc d} {b = base w} l, f)
 
   further_digit :
       (k n : ℕ) {d c : ℕ} → may_follow w k ≡ true → Digit d c → d < base w →
       read (line (with_number w (cap n) p) m (Number w (count k))) c
       ≡ line (with_number w (cap (base w * n + d)) p) m (Number w (count (k + 1)))
-  unfolding read heading_step step_at numbered takes_digit counted_on counted when◌then◌else◌
+  unfolding read heading_step step_at numbered numbered_by digit_of takes_digit counted_on counted when◌then◌else◌
   further_digit k n {d} f g l =
       let e : count (count k + 1) ≡ count (k + 1) = omega arith in
       rw (

@@ -15,7 +15,13 @@ use Rattle.text_heading.specs.declared.Word.{Word}
 use Rattle.text_heading.specs.declared.Word.TheVariants.{Outputs, Stations, Fade, Duration, Tenants}
 use Rattle.text_heading.specs.declared.Named.{Named}
 use Rattle.text_heading.specs.declared.HeadingFault.TheVariants.{Outside}
-use Rattle.text_heading.specs.declared.Ending.TheVariants.{Starts, Fails}
+use Rattle.text_heading.specs.declared.HeadingFault.{HeadingFault}
+use Rattle.std.specs.Prelude.{Result, Ok, Err}
+
+-- A WORD'S NUMBER that does not fit is named, whatever comes after it
+pub fitting_err : (w : Word) (q : Named) (f : HeadingFault) (e : Result Named HeadingFault) → fitting w q (Ok q) ≡ Err f → fitting w q e ≡ Err f
+unfolding fitting when◌then◌else◌
+fitting_err w q f e h = by_bool (fits w q) (λ t. let z = rw t at h in cc) (λ t. rw t (rw t at h))
 
 -- THE TEST, number by number
 startable_fits :
@@ -26,9 +32,9 @@ startable_fits q = refl
 
 -- a word's number fits, or that word is named
 pub data Judged (q : Named) : Type 0 where
-  all_fit : startable q.parameters ≡ true → judged q ≡ Starts q → Judged q
+  all_fit : startable q.parameters ≡ true → judged q ≡ Ok q → Judged q
   outside :
-      (w : Word) → startable q.parameters ≡ false → fits w q ≡ false → judged q ≡ Fails (Outside w) →
+      (w : Word) → startable q.parameters ≡ false → fits w q ≡ false → judged q ≡ Err (Outside w) →
       Judged q
 
 pub judging : (q : Named) → Judged q
@@ -48,10 +54,10 @@ judging q =
     (λ a. outside Stations (startable_fits q ∙ rw a) a (rw a))
 
 -- so a set that may be started is, and any other is refused with the word of a number that is out of range
-pub judged_starts : (q : Named) → startable q.parameters ≡ true → judged q ≡ Starts q
+pub judged_starts : (q : Named) → startable q.parameters ≡ true → judged q ≡ Ok q
 judged_starts q h = by (judging q)
   where
-    by : Judged q → judged q ≡ Starts q
+    by : Judged q → judged q ≡ Ok q
     by (all_fit s e) = e
     by (outside w s f e) = absurd (false≢true (sym s ∙ h))
 
@@ -116,7 +122,7 @@ judged_capped q t =
     by_bool (fits Fade q)
     (λ c.
     by_bool (fits Duration q)
-    (λ d. rw (a, b, c, d) (ap Starts (capped_same q (startable_fits q ∙ rw (a, b, c, d)) t)))
+    (λ d. rw (a, b, c, d) (ap Ok (capped_same q (startable_fits q ∙ rw (a, b, c, d)) t)))
     (λ d. rw (a, b, c, d)))
     (λ c. rw (a, b, c)))
     (λ b. rw (a, b)))

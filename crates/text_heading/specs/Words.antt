@@ -1,5 +1,5 @@
 -- The words of a list's first line: their letters, and each one's number in what is named.
-use Rattle.std.specs.Prelude.{Bool, true, ℕ, ltb, eqb, get_or}
+use Rattle.std.specs.Prelude.{Bool, true, Option, ℕ, ltb, eqb, slice_get}
 use Rattle.lighting_levels.specs.Paper.Choice.{when◌then◌else◌}
 use Rattle.lighting_outputs.specs.declared.Parameters.{Parameters}
 use Rattle.lighting_outputs.specs.Paper.Rows.{within}
@@ -19,9 +19,9 @@ letters Fade = text "fade"
 letters Duration = text "duration"
 letters Tenants = text "tenants"
 
--- the letter after the first k, 0 after the last
-abbrev pub letter : Word → ℕ → ℕ
-letter w k = get_or (letters w) k 0
+-- the letter after the first k, none after the last
+abbrev pub letter : Word → ℕ → Option ℕ
+letter w k = slice_get (letters w) k
 
 -- HOW A WORD'S NUMBER IS WRITTEN: the marks of tenants in up to eight hexadecimal digits (§8), every other
 -- number in decimal digits, however many

@@ -6,7 +6,7 @@
 pub mod words;
 
 ghost use Rattle.std.specs.Prelude.{◌≡◌, ◌+◌, min};
-ghost use Rattle.text_heading.specs.Heading.{fresh_heading, with_place, no_word, no_number, misspelt, unnumbered, lettered, grown, takes_digit, counted, counted_on, gapped, numbered, marked, word_begun, trailed, heading_step, fitting, judged, ended};
+ghost use Rattle.text_heading.specs.Heading.{fresh_heading, with_place, no_word, no_number, misspelt, unnumbered, lettered, grown, takes_digit, digit_of, counted, counted_on, gapped, numbered, marked, word_begun, trailed, heading_step, fitting, judged, ended};
 
 use lighting_outputs::{MOST_DURATION, MOST_FADE, Parameters};
 
@@ -81,14 +81,7 @@ pub struct Heading {
     pub place: Place,
 }
 
-// What the line is at its end.
-#[derive(Clone, Copy)]
-pub enum Ending {
-    Starts(Named),
-    Fails(HeadingFault),
-}
-
-// ---- the line after one more character c, worth v as a digit
+// ---- the line after one more character: c, and v, what it is worth as a digit
 
 // Before its first character. Left out are eight stations, the greatest times, and no marks.
 #[tactic(auto, unfolding(crate::specs::Heading::fresh_heading))]
@@ -116,16 +109,10 @@ pub fn fresh_heading() -> Heading
 }
 
 #[tactic(auto, unfolding(crate::specs::Heading::with_place))]
-fn with_place(h: Heading, at: Place) -> Heading
-    ensures { result ≡ with_place h at }
+fn with_place(h: Heading, place: Place) -> Heading
+    ensures { result ≡ with_place h place }
 {
-    let named = h.named;
-    let came = h.came;
-    Heading {
-        named: named,
-        came: came,
-        place: at,
-    }
+    Heading { place, ..h }
 }
 
 // What is wrong where a word is not there whole, and where no number follows it.
@@ -135,10 +122,7 @@ fn no_word(w: Word) -> HeadingFault
 {
     match w {
         Word::Outputs => HeadingFault::NoOutputs,
-        Word::Stations => HeadingFault::BadWord,
-        Word::Fade => HeadingFault::BadWord,
-        Word::Duration => HeadingFault::BadWord,
-        Word::Tenants => HeadingFault::BadWord,
+        Word::Stations | Word::Fade | Word::Duration | Word::Tenants => HeadingFault::BadWord,
     }
 }
 
@@ -148,9 +132,7 @@ fn no_number(w: Word) -> HeadingFault
 {
     match w {
         Word::Outputs => HeadingFault::BadCount,
-        Word::Stations => HeadingFault::BadWord,
-        Word::Fade => HeadingFault::BadWord,
-        Word::Duration => HeadingFault::BadWord,
+        Word::Stations | Word::Fade | Word::Duration => HeadingFault::BadWord,
         Word::Tenants => HeadingFault::BadMarks,
     }
 }
@@ -170,21 +152,14 @@ fn unnumbered(h: Heading, w: Word) -> Heading
 }
 
 // After k letters of a word.
-#[tactic(auto, using(crate::proofs::Letters::letter_within, lighting_levels::proofs::Choosing::ifs), unfolding(crate::specs::Heading::lettered))]
+#[tactic(auto, using(crate::proofs::Letters::letter_within, lighting_levels::proofs::Choosing::ifs), unfolding(crate::specs::Heading::lettered, crate::specs::Heading::lettered_by))]
 fn lettered(h: Heading, w: Word, k: u8, c: u8) -> Heading
     ensures { result ≡ lettered h w k c }
 {
-    let l = words::letter(w, k);
-    if l == 0 {
-        if text_characters::is_blank(c) {
-            with_place(h, Place::Gap(w))
-        } else {
-            misspelt(h, w)
-        }
-    } else if c == l {
-        with_place(h, Place::Letters(w, k + 1))
-    } else {
-        misspelt(h, w)
+    match words::letter(w, k) {
+        Some(l) if c == l => with_place(h, Place::Letters(w, k + 1)),
+        None if text_characters::is_blank(c) => with_place(h, Place::Gap(w)),
+        Some(_) | None => misspelt(h, w),
     }
 }
 
@@ -192,14 +167,8 @@ fn lettered(h: Heading, w: Word, k: u8, c: u8) -> Heading
 fn grown(w: Word, n: u32, v: u8) -> u32
     ensures { result ≡ grown w n v }
 {
-    let m = (words::base(w) as u64) * (n as u64) + (v as u64);
-    if m < 4294967295 { m as u32 } else { 4294967295 }
-}
-
-fn one_more(k: u8) -> u8
-    ensures { result ≡ min 255 (k + 1) }
-{
-    if k < 255 { k + 1 } else { 255 }
+    let m = u64::from(words::base(w)) * u64::from(n) + u64::from(v);
+    m.min(4294967295) as u32
 }
 
 // Whether after k digits of a word's number v is one more.
@@ -207,10 +176,16 @@ fn one_more(k: u8) -> u8
 fn takes_digit(w: Word, k: u8, v: u8) -> bool
     ensures { result ≡ takes_digit w k v }
 {
-    if v < words::base(w) {
-        words::may_follow(w, k)
-    } else {
-        false
+    v < words::base(w) && words::may_follow(w, k)
+}
+
+#[tactic(auto, using(lighting_levels::proofs::Choosing::ifs), unfolding(crate::specs::Heading::digit_of))]
+fn digit_of(w: Word, k: u8, v: Option<u8>) -> Option<u8>
+    ensures { result ≡ digit_of w k v }
+{
+    match v {
+        Some(d) if takes_digit(w, k, d) => v,
+        Some(_) | None => None,
     }
 }
 
@@ -219,12 +194,10 @@ fn takes_digit(w: Word, k: u8, v: u8) -> bool
 fn counted(h: Heading, w: Word, k: u8, n: u32, v: u8) -> Heading
     ensures { result ≡ counted h w k n v }
 {
-    let came = h.came;
-    let named = words::with_number(w, grown(w, n, v), h.named);
     Heading {
-        named: named,
-        came: came,
-        place: Place::Number(w, one_more(k)),
+        named: words::with_number(w, grown(w, n, v), h.named),
+        place: Place::Number(w, k.saturating_add(1)),
+        ..h
     }
 }
 
@@ -235,29 +208,25 @@ fn counted_on(h: Heading, w: Word, k: u8, v: u8) -> Heading
     counted(h, w, k, words::number_in(w, h.named), v)
 }
 
-#[tactic(auto, using(lighting_levels::proofs::Choosing::ifs), unfolding(crate::specs::Heading::gapped))]
-fn gapped(h: Heading, w: Word, v: u8, c: u8) -> Heading
+#[tactic(auto, using(lighting_levels::proofs::Choosing::ifs), unfolding(crate::specs::Heading::gapped, crate::specs::Heading::gapped_by))]
+fn gapped(h: Heading, w: Word, v: Option<u8>, c: u8) -> Heading
     ensures { result ≡ gapped h w v c }
 {
-    if takes_digit(w, 0, v) {
-        counted(h, w, 0, 0, v)
-    } else if text_characters::is_blank(c) {
-        h
-    } else {
-        unnumbered(h, w)
+    match digit_of(w, 0, v) {
+        Some(d) => counted(h, w, 0, 0, d),
+        None if text_characters::is_blank(c) => h,
+        None => unnumbered(h, w),
     }
 }
 
-#[tactic(auto, using(lighting_levels::proofs::Choosing::ifs), unfolding(crate::specs::Heading::numbered))]
-fn numbered(h: Heading, w: Word, k: u8, v: u8, c: u8) -> Heading
+#[tactic(auto, using(lighting_levels::proofs::Choosing::ifs), unfolding(crate::specs::Heading::numbered, crate::specs::Heading::numbered_by))]
+fn numbered(h: Heading, w: Word, k: u8, v: Option<u8>, c: u8) -> Heading
     ensures { result ≡ numbered h w k v c }
 {
-    if takes_digit(w, k, v) {
-        counted_on(h, w, k, v)
-    } else if text_characters::is_blank(c) {
-        with_place(h, Place::Trail)
-    } else {
-        unnumbered(h, w)
+    match digit_of(w, k, v) {
+        Some(d) => counted_on(h, w, k, d),
+        None if text_characters::is_blank(c) => with_place(h, Place::Trail),
+        None => unnumbered(h, w),
     }
 }
 
@@ -266,12 +235,10 @@ fn numbered(h: Heading, w: Word, k: u8, v: u8, c: u8) -> Heading
 fn marked(h: Heading, w: Word) -> Heading
     ensures { result ≡ marked h w }
 {
-    let named = h.named;
-    let came = words::with_come(w, h.came);
     Heading {
-        named: named,
-        came: came,
+        came: words::with_come(w, h.came),
         place: Place::Letters(w, 1),
+        ..h
     }
 }
 
@@ -286,31 +253,25 @@ fn word_begun(h: Heading, w: Word) -> Heading
     }
 }
 
-#[tactic(auto, using(lighting_levels::proofs::Choosing::ifs), unfolding(crate::specs::Heading::trailed))]
+#[tactic(auto, using(lighting_levels::proofs::Choosing::ifs), unfolding(crate::specs::Heading::trailed, text_characters::specs::Characters::is_blank))]
 fn trailed(h: Heading, c: u8) -> Heading
     ensures { result ≡ trailed h c }
 {
-    if text_characters::is_blank(c) {
-        h
-    } else if c == b's' {
-        word_begun(h, Word::Stations)
-    } else if c == b'f' {
-        word_begun(h, Word::Fade)
-    } else if c == b'd' {
-        word_begun(h, Word::Duration)
-    } else if c == b't' {
-        word_begun(h, Word::Tenants)
-    } else {
-        with_place(h, Place::Spoilt(HeadingFault::BadWord))
+    match c {
+        b's' => word_begun(h, Word::Stations),
+        b'f' => word_begun(h, Word::Fade),
+        b'd' => word_begun(h, Word::Duration),
+        b't' => word_begun(h, Word::Tenants),
+        _ if text_characters::is_blank(c) => h,
+        _ => with_place(h, Place::Spoilt(HeadingFault::BadWord)),
     }
 }
 
 #[tactic(auto, unfolding(crate::specs::Heading::heading_step, crate::specs::Heading::step_at))]
-pub fn step(h: Heading, v: u8, c: u8) -> Heading
+pub fn step(h: Heading, v: Option<u8>, c: u8) -> Heading
     ensures { result ≡ heading_step h v c }
 {
-    let at = h.place;
-    match at {
+    match h.place {
         Place::Letters(w, k) => lettered(h, w, k, c),
         Place::Gap(w) => gapped(h, w, v, c),
         Place::Number(w, k) => numbered(h, w, k, v, c),
@@ -321,39 +282,36 @@ pub fn step(h: Heading, v: u8, c: u8) -> Heading
 
 // ---- the line's end
 
-// What comes of it, unless this word's number is out of range.
+// What is named, unless this word's number is out of range.
 #[tactic(auto, using(lighting_levels::proofs::Choosing::ifs), unfolding(crate::specs::Heading::fitting))]
-fn fitting(w: Word, named: Named, e: Ending) -> Ending
-    ensures { result ≡ fitting w named e }
+fn fitting(w: Word, named: Named) -> Result<Named, HeadingFault>
+    ensures { result ≡ fitting w named (Ok named) }
 {
     if words::fits(w, named) {
-        e
+        Ok(named)
     } else {
-        Ending::Fails(HeadingFault::Outside(w))
+        Err(HeadingFault::Outside(w))
     }
 }
 
-#[tactic(auto, unfolding(crate::specs::Heading::judged))]
-fn judged(named: Named) -> Ending
+#[tactic(auto, using(lighting_levels::proofs::Choosing::ifs), unfolding(crate::specs::Heading::judged, crate::specs::Heading::fitting))]
+fn judged(named: Named) -> Result<Named, HeadingFault>
     ensures { result ≡ judged named }
 {
-    let duration = fitting(Word::Duration, named, Ending::Starts(named));
-    let fade = fitting(Word::Fade, named, duration);
-    let outputs = fitting(Word::Outputs, named, fade);
-    fitting(Word::Stations, named, outputs)
+    fitting(Word::Stations, named)?;
+    fitting(Word::Outputs, named)?;
+    fitting(Word::Fade, named)?;
+    fitting(Word::Duration, named)
 }
 
 #[tactic(auto, unfolding(crate::specs::Heading::ended, crate::specs::Heading::ended_at))]
-pub fn ended(h: Heading) -> Ending
+pub fn ended(h: Heading) -> Result<Named, HeadingFault>
     ensures { result ≡ ended h }
 {
-    let named = h.named;
-    let at = h.place;
-    match at {
-        Place::Letters(w, _) => Ending::Fails(no_word(w)),
-        Place::Gap(w) => Ending::Fails(no_number(w)),
-        Place::Number(_, _) => judged(named),
-        Place::Trail => judged(named),
-        Place::Spoilt(f) => Ending::Fails(f),
+    match h.place {
+        Place::Letters(w, _) => Err(no_word(w)),
+        Place::Gap(w) => Err(no_number(w)),
+        Place::Number(_, _) | Place::Trail => judged(h.named),
+        Place::Spoilt(f) => Err(f),
     }
 }

@@ -1,6 +1,6 @@
 // The words of a list's first line: their letters, and each one's number in what is named.
-ghost use Rattle.std.specs.Prelude.{◌≡◌, get_or};
-ghost use Rattle.text_heading.specs.Words.{letters, base, may_follow, number_in, set_with, marks_with, with_number, bounds, fits, has_come, with_come};
+ghost use Rattle.std.specs.Prelude.{◌≡◌};
+ghost use Rattle.text_heading.specs.Words.{letters, letter, base, may_follow, number_in, set_with, marks_with, with_number, bounds, fits, has_come, with_come};
 
 use crate::{Bounds, Came, Named, Word};
 use lighting_outputs::{
@@ -9,25 +9,24 @@ use lighting_outputs::{
 
 // ---- letters
 
-fn letter_of(letters: &[u8], k: u8) -> u8
-    ensures { result ≡ get_or letters.now k 0 }
-{
-    let i = number_ranges::index(k);
-    if i < letters.len() { letters[i] } else { 0 }
-}
-
-// The letter of a word after the first k, 0 after the last.
 #[tactic(auto, unfolding(crate::specs::Words::letters))]
-pub fn letter(w: Word, k: u8) -> u8
-    ensures { result ≡ get_or (letters w) k 0 }
+pub fn letters(w: Word) -> &'static [u8]
+    ensures { result.now ≡ letters w }
 {
     match w {
-        Word::Outputs => letter_of(b"outputs", k),
-        Word::Stations => letter_of(b"stations", k),
-        Word::Fade => letter_of(b"fade", k),
-        Word::Duration => letter_of(b"duration", k),
-        Word::Tenants => letter_of(b"tenants", k),
+        Word::Outputs => b"outputs",
+        Word::Stations => b"stations",
+        Word::Fade => b"fade",
+        Word::Duration => b"duration",
+        Word::Tenants => b"tenants",
     }
+}
+
+// The letter of a word after the first k, none after the last.
+pub fn letter(w: Word, k: u8) -> Option<u8>
+    ensures { result ≡ letter w k }
+{
+    letters(w).get(usize::from(k)).copied()
 }
 
 // ---- how a word's number is written
@@ -37,10 +36,7 @@ pub fn base(w: Word) -> u8
     ensures { result ≡ base w }
 {
     match w {
-        Word::Outputs => 10,
-        Word::Stations => 10,
-        Word::Fade => 10,
-        Word::Duration => 10,
+        Word::Outputs | Word::Stations | Word::Fade | Word::Duration => 10,
         Word::Tenants => 16,
     }
 }
@@ -50,7 +46,7 @@ pub fn base(w: Word) -> u8
 pub fn may_follow(w: Word, k: u8) -> bool
     ensures { result ≡ may_follow w k }
 {
-    if base(w) == 10 { true } else { k < 8 }
+    base(w) == 10 || k < 8
 }
 
 // ---- a word's number
@@ -73,30 +69,10 @@ fn set_with(w: Word, n: u32, set: Parameters) -> Parameters
     ensures { result ≡ set_with w n set }
 {
     match w {
-        Word::Outputs => Parameters {
-            stations: set.stations,
-            outputs: n,
-            fade: set.fade,
-            duration: set.duration,
-        },
-        Word::Stations => Parameters {
-            stations: n,
-            outputs: set.outputs,
-            fade: set.fade,
-            duration: set.duration,
-        },
-        Word::Fade => Parameters {
-            stations: set.stations,
-            outputs: set.outputs,
-            fade: n,
-            duration: set.duration,
-        },
-        Word::Duration => Parameters {
-            stations: set.stations,
-            outputs: set.outputs,
-            fade: set.fade,
-            duration: n,
-        },
+        Word::Outputs => Parameters { outputs: n, ..set },
+        Word::Stations => Parameters { stations: n, ..set },
+        Word::Fade => Parameters { fade: n, ..set },
+        Word::Duration => Parameters { duration: n, ..set },
         Word::Tenants => set,
     }
 }
@@ -106,10 +82,7 @@ fn marks_with(w: Word, n: u32, marks: u32) -> u32
     ensures { result ≡ marks_with w n marks }
 {
     match w {
-        Word::Outputs => marks,
-        Word::Stations => marks,
-        Word::Fade => marks,
-        Word::Duration => marks,
+        Word::Outputs | Word::Stations | Word::Fade | Word::Duration => marks,
         Word::Tenants => n,
     }
 }
@@ -118,9 +91,8 @@ fn marks_with(w: Word, n: u32, marks: u32) -> u32
 pub fn with_number(w: Word, n: u32, named: Named) -> Named
     ensures { result ≡ with_number w n named }
 {
-    let set = set_with(w, n, named.parameters);
     Named {
-        parameters: set,
+        parameters: set_with(w, n, named.parameters),
         tenants: marks_with(w, n, named.tenants),
     }
 }
@@ -184,27 +156,16 @@ pub fn with_come(w: Word, came: Came) -> Came
         Word::Outputs => came,
         Word::Stations => Came {
             stations: true,
-            fade: came.fade,
-            duration: came.duration,
-            tenants: came.tenants,
+            ..came
         },
-        Word::Fade => Came {
-            stations: came.stations,
-            fade: true,
-            duration: came.duration,
-            tenants: came.tenants,
-        },
+        Word::Fade => Came { fade: true, ..came },
         Word::Duration => Came {
-            stations: came.stations,
-            fade: came.fade,
             duration: true,
-            tenants: came.tenants,
+            ..came
         },
         Word::Tenants => Came {
-            stations: came.stations,
-            fade: came.fade,
-            duration: came.duration,
             tenants: true,
+            ..came
         },
     }
 }

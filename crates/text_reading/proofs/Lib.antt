@@ -1,4 +1,3 @@
-pub mod Laws
 pub mod Lines
 pub mod Spelt
 pub mod Runs

@@ -11,12 +11,13 @@ use lib.ListN.{length, take, length-set, length-take, length-append}
 use lib.Seq.{take_all, take-append-le, take-suc-set}
 use Rattle.lighting_levels.specs.Paper.Choice.{when◌then◌else◌}
 use Rattle.lighting_frames.specs.Paper.Frames.{Bytes, Octets}
-use Rattle.lighting_levels.proofs.Split.{by_lt, eqb_miss, leb_yes}
+use Rattle.lighting_levels.proofs.Split.{by_lt, eqb_miss}
+use Rattle.std.specs.Prelude.{Option, Some}
 use Rattle.text_characters.specs.Characters.{is_blank, byte_pair}
 use Rattle.text_heading.specs.Heading.{run}
 use Rattle.text_heading.specs.Spelling.{Unbroken, nothing, char, Digit}
 use Rattle.text_heading.proofs.Leads.{blank_no_newline, worth, small, past}
-use Rattle.text_reading.specs.Reading.{bytes_kept, digit_held, opened, byte_held, half_held, dashed, step, pushed, joined, stored_by, with_held, feed, fed, line_of, content}
+use Rattle.text_reading.specs.Reading.{bytes_kept, digit_held, opened, byte_held, half_held, dashed, step, pushed, joined, joined_by, stored_by, with_held, feed, fed, line_of, content}
 use Rattle.text_reading.specs.Spelling.{Spells, end, blank, byte}
 use Rattle.text_reading.specs.declared.Held.{Held}
 use Rattle.text_reading.specs.declared.Held.TheVariants.{Blank, Whole, Half, Dash}
@@ -45,7 +46,7 @@ pub record Ready (w : Reader) : Type 0 where
   pub between : Between w.held
 
 -- a first digit
-first_held : (n : Bool) {h : Held} {d c : ℕ} → n ≡ true → Between h → Digit d c → step n h d c ≡ Half d
+first_held : (n : Bool) {h : Held} {d c : ℕ} → n ≡ true → Between h → Digit d c → step n h (Some d) c ≡ Half d
 unfolding step opened byte_held digit_held when◌then◌else◌
 first_held n {d = d} {c = c} p none g =
     rw (
@@ -53,24 +54,23 @@ first_held n {d = d} {c = c} p none g =
       eqb_miss {a = c} {b = 35} (omega (arith, past g)),
       p,
       eqb_miss {a = c} {b = 45} (omega (arith, past g)),
-      leb_yes {a = suc d} {b = 16} (small g),
     )
-first_held n {d = d} {c = c} p some g = rw (is_no_blank c (past g), leb_yes {a = suc d} {b = 16} (small g))
+first_held n {d = d} {c = c} p some g = rw (is_no_blank c (past g))
 
-unstored : (w : Reader) {h : Held} (v : ℕ) → Between h → stored_by w h v ≡ w
+unstored : (w : Reader) {h : Held} (v : Option ℕ) → Between h → stored_by w h v ≡ w
 unfolding stored_by
 unstored w v none = refl
 unstored w v some = refl
 
 pub first : (w : Reader) {d c : ℕ} → w.named ≡ true → Between w.held → Digit d c → feed w c ≡ with_held w (Half d)
 unfolding feed
-first w {d} {c} p b g = rw (worth g, unstored w d b, first_held w.named p b g)
+first w {d} {c} p b g = rw (worth g, unstored w (Some d) b, first_held w.named p b g)
 
 -- a second one
 pub second : (w : Reader) {d v c : ℕ} → d < 16 → Digit v c → feed (with_held w (Half d)) c ≡ with_held (pushed w (d * 16 + v)) Whole
-unfolding feed with_held step stored_by half_held joined pushed when◌then◌else◌
+unfolding feed with_held step stored_by joined_by half_held joined pushed when◌then◌else◌
 second w {d} {v} {c} h g =
-    rw (worth g, leb_yes {a = suc v} {b = 16} (small g), pair)
+    rw (worth g, pair)
     (by_lt w.count bytes_kept (λ p e. rw e) (λ p e. rw e))
   where
     pair : byte_pair d v ≡ d * 16 + v

@@ -1,12 +1,12 @@
 -- The text of a list of frames, read one byte at a time. Only newlines are not fed: they end a line.
-use Rattle.std.specs.Prelude.{Bool, true, false, [], ◌∷◌, ℕ, suc, ◌+◌, min, ltb, eqb, set, replicate, take}
+use Rattle.std.specs.Prelude.{Bool, true, false, Option, Some, None, Result, Ok, Err, [], ◌∷◌, ℕ, suc, ◌+◌, min, ltb, eqb, set, replicate, take}
 use Rattle.lighting_levels.specs.Paper.Choice.{when◌then◌else◌}
 use Rattle.lighting_frames.specs.Paper.Kinds.{longest_frame}
 use Rattle.lighting_frames.specs.Paper.Frames.{Bytes}
 use Rattle.text_characters.specs.Characters.{is_blank, hex_value, byte_pair}
 use Rattle.text_heading.specs.declared.Heading.{Heading}
-use Rattle.text_heading.specs.declared.Ending.{Ending}
-use Rattle.text_heading.specs.declared.Ending.TheVariants.{Starts, Fails}
+use Rattle.text_heading.specs.declared.Named.{Named}
+use Rattle.text_heading.specs.declared.HeadingFault.{HeadingFault}
 use Rattle.text_heading.specs.Heading.{fresh_heading, heading_step, run, ended}
 use Rattle.text_reading.specs.declared.Fault.TheVariants.{InHeading, NoDigit, HalfByte}
 use Rattle.text_reading.specs.declared.Held.{Held}
@@ -15,17 +15,18 @@ use Rattle.text_reading.specs.declared.Line.{Line}
 use Rattle.text_reading.specs.declared.Line.TheVariants.{Nothing, Started, Frame, Wrong}
 use Rattle.text_reading.specs.declared.Reader.{Reader}
 
--- WHAT A LINE HOLDS after one more character c, worth v as a digit. A first digit of a byte:
-unfoldable pub digit_held : ℕ → Held
-digit_held v = when ltb v 16 then Half v else Spoilt NoDigit
+-- WHAT A LINE HOLDS after one more character c, and v, what it is worth as a digit. A first digit of a byte:
+unfoldable pub digit_held : Option ℕ → Held
+digit_held (Some v) = Half v
+digit_held None = Spoilt NoDigit
 
 -- the first line that says something names the outputs
-unfoldable pub naming_held : Heading → ℕ → ℕ → Held
+unfoldable pub naming_held : Heading → Option ℕ → ℕ → Held
 naming_held h v c = Naming (heading_step h v c)
 
 -- the first character that is no blank: `#` begins a comment; before the list has named its outputs, all else
 -- is to name them; after that, `-` is the empty string, and all else is to be bytes
-unfoldable pub opened : Bool → ℕ → ℕ → Held
+unfoldable pub opened : Bool → Option ℕ → ℕ → Held
 opened named v c =
     when is_blank c then Blank
     else when eqb c 35 then Comment
@@ -33,16 +34,17 @@ opened named v c =
     else naming_held fresh_heading v c
 
 -- blanks stand between bytes, and not within one
-unfoldable pub byte_held : ℕ → ℕ → Held
+unfoldable pub byte_held : Option ℕ → ℕ → Held
 byte_held v c = when is_blank c then Whole else digit_held v
 
-unfoldable pub half_held : ℕ → ℕ → Held
-half_held v c = when ltb v 16 then Whole else when is_blank c then Spoilt HalfByte else Spoilt NoDigit
+unfoldable pub half_held : Option ℕ → ℕ → Held
+half_held (Some v) c = Whole
+half_held None c = when is_blank c then Spoilt HalfByte else Spoilt NoDigit
 
 unfoldable pub dashed : ℕ → Held
 dashed c = when is_blank c then Dash else Spoilt NoDigit
 
-unfoldable pub step : Bool → Held → ℕ → ℕ → Held
+unfoldable pub step : Bool → Held → Option ℕ → ℕ → Held
 step named Blank v c = opened named v c
 step named Comment v c = Comment
 step named (Naming h) v c = naming_held h v c
@@ -75,12 +77,16 @@ unfoldable pub joined : Reader → ℕ → ℕ → Reader
 joined w d v = pushed w (byte_pair d v)
 
 -- a byte is stored by its second digit
-unfoldable pub stored_by : Reader → Held → ℕ → Reader
+unfoldable pub joined_by : Reader → ℕ → Option ℕ → Reader
+joined_by w d (Some v) = joined w d v
+joined_by w d None = w
+
+unfoldable pub stored_by : Reader → Held → Option ℕ → Reader
 stored_by w Blank v = w
 stored_by w Comment v = w
 stored_by w (Naming h) v = w
 stored_by w Whole v = w
-stored_by w (Half d) v = when ltb v 16 then joined w d v else w
+stored_by w (Half d) v = joined_by w d v
 stored_by w Dash v = w
 stored_by w (Spoilt f) v = w
 
@@ -104,9 +110,9 @@ line_length [] = 0
 line_length (c ∷ x) = when eqb c 10 then 0 else suc (line_length x)
 
 -- A LINE'S END
-unfoldable pub heading_line : Ending → Line
-heading_line (Starts q) = Started q
-heading_line (Fails f) = Wrong (InHeading f)
+unfoldable pub heading_line : Result Named HeadingFault → Line
+heading_line (Ok q) = Started q
+heading_line (Err f) = Wrong (InHeading f)
 
 unfoldable pub line_of : Held → Line
 line_of Blank = Nothing

@@ -4,10 +4,10 @@
 
 mod characters;
 
-ghost use Rattle.std.specs.Prelude.{◌≡◌, ◌+◌, ◌≤◌, min, length, drop};
+ghost use Rattle.std.specs.Prelude.{◌≡◌, ◌+◌, ◌≤◌, length, drop};
 ghost use Rattle.text_reading.specs.Reading.{pushed, joined, stored_by, with_held, feed, fed_line, line_length, heading_line, line_of, next_line, with_named, fresh_reader};
 
-use text_heading::{Ending, Heading, HeadingFault, Named};
+use text_heading::{Heading, HeadingFault, Named};
 
 // What makes a line a bad one.
 #[derive(Clone, Copy)]
@@ -67,17 +67,13 @@ pub struct Reader {
 fn push(w: Reader, x: u8) -> Reader
     ensures { result ≡ pushed w x }
 {
-    let at = w.count;
-    let held = w.held;
-    let mut bytes = w.bytes;
-    if at < BYTES_KEPT {
-        bytes[at] = x;
+    if w.count < BYTES_KEPT {
+        let mut bytes = w.bytes;
+        bytes[w.count] = x;
         Reader {
-            named: w.named,
-            line: w.line,
-            held: held,
-            bytes: bytes,
-            count: at + 1,
+            bytes,
+            count: w.count + 1,
+            ..w
         }
     } else {
         w
@@ -91,43 +87,37 @@ fn join(w: Reader, d: u8, v: u8) -> Reader
     push(w, text_characters::byte_pair(d, v))
 }
 
-#[tactic(auto, using(lighting_levels::proofs::Choosing::ifs), unfolding(crate::specs::Reading::stored_by))]
-fn store(w: Reader, h: Held, v: u8) -> Reader
+#[tactic(auto, unfolding(crate::specs::Reading::stored_by, crate::specs::Reading::joined_by))]
+fn store(w: Reader, h: Held, v: Option<u8>) -> Reader
     ensures { result ≡ stored_by w h v }
 {
     match h {
-        Held::Blank => w,
-        Held::Comment => w,
-        Held::Naming(_) => w,
-        Held::Whole => w,
-        Held::Half(d) => if v < 16 { join(w, d, v) } else { w },
-        Held::Dash => w,
-        Held::Spoilt(_) => w,
+        Held::Half(d) => match v {
+            Some(v) => join(w, d, v),
+            None => w,
+        },
+        Held::Blank
+        | Held::Comment
+        | Held::Naming(_)
+        | Held::Whole
+        | Held::Dash
+        | Held::Spoilt(_) => w,
     }
 }
 
 #[tactic(auto, unfolding(crate::specs::Reading::with_held))]
-fn with_held(w: Reader, h: Held) -> Reader
-    ensures { result ≡ with_held w h }
+fn with_held(w: Reader, held: Held) -> Reader
+    ensures { result ≡ with_held w held }
 {
-    let bytes = w.bytes;
-    Reader {
-        named: w.named,
-        line: w.line,
-        held: h,
-        bytes: bytes,
-        count: w.count,
-    }
+    Reader { held, ..w }
 }
 
 #[tactic(auto, unfolding(crate::specs::Reading::feed))]
 fn feed(w: Reader, c: u8) -> Reader
     ensures { result ≡ feed w c }
 {
-    let h = w.held;
     let v = text_characters::hex_value(c);
-    let stored = store(w, h, v);
-    with_held(stored, characters::step(w.named, h, v, c))
+    with_held(store(w, w.held, v), characters::step(w.named, w.held, v, c))
 }
 
 // The reader after the rest of a line, as far as the bytes go, and where that ends: at a newline, or at the
@@ -147,46 +137,39 @@ fn feed_bytes(w: Reader, s: &[u8], from: usize) -> Fed
     ensures s_value_2 { result.next + line_length (drop result.next s.now) ≡ from + line_length (drop from s.now) }
     ensures from_le_next { (from ≤ result.next) × (result.next ≤ length s.now) }
 {
-    let named = w.named;
-    let line = w.line;
+    // Stays: a turn takes one character or two, and the place where the run ends is handed back, so that no `for`
+    // over the bytes and no iterator is plainer.
     let mut held = w.held;
     let mut bytes = w.bytes;
     let mut count = w.count;
     let mut i = from;
-    if characters::may_begin(named, held) {
+    if characters::may_begin(w.named, held) {
         while i < s.len() {
             let c = s[i];
-            let d = text_characters::hex_value(c);
-            if d < 16 {
-                if BYTES_KEPT <= count {
+            if let Some(d) = text_characters::hex_value(c) {
+                if BYTES_KEPT <= count || s.len() <= i + 1 {
                     break;
                 }
-                if s.len() <= i + 1 {
+                let Some(v) = text_characters::hex_value(s[i + 1]) else {
                     break;
-                }
-                let v = text_characters::hex_value(s[i + 1]);
-                if 16 <= v {
-                    break;
-                }
+                };
                 bytes[count] = text_characters::byte_pair(d, v);
                 count += 1;
                 held = Held::Whole;
                 i += 2;
-            } else {
-                if !text_characters::is_blank(c) {
-                    break;
-                }
+            } else if text_characters::is_blank(c) {
                 i += 1;
+            } else {
+                break;
             }
         }
     }
     Fed {
         reader: Reader {
-            named: named,
-            line: line,
-            held: held,
-            bytes: bytes,
-            count: count,
+            held,
+            bytes,
+            count,
+            ..w
         },
         next: i,
     }
@@ -201,8 +184,7 @@ pub fn feed_line(w: Reader, s: &[u8], from: usize) -> Fed
     let mut i = from;
     while i < s.len() {
         let run = feed_bytes(reader, s, i);
-        let after = run.reader;
-        reader = after;
+        reader = run.reader;
         i = run.next;
         if i < s.len() {
             let c = s[i];
@@ -213,21 +195,18 @@ pub fn feed_line(w: Reader, s: &[u8], from: usize) -> Fed
             i += 1;
         }
     }
-    Fed {
-        reader: reader,
-        next: i,
-    }
+    Fed { reader, next: i }
 }
 
 // ---- a line's end
 
 #[tactic(auto, unfolding(crate::specs::Reading::heading_line))]
-fn heading_line(e: Ending) -> Line
-    ensures { result ≡ heading_line e }
+fn heading_line(named: Result<Named, HeadingFault>) -> Line
+    ensures { result ≡ heading_line named }
 {
-    match e {
-        Ending::Starts(named) => Line::Started(named),
-        Ending::Fails(f) => Line::Wrong(Fault::InHeading(f)),
+    match named {
+        Ok(named) => Line::Started(named),
+        Err(f) => Line::Wrong(Fault::InHeading(f)),
     }
 }
 
@@ -236,34 +215,23 @@ pub fn line_of(h: Held) -> Line
     ensures { result ≡ line_of h }
 {
     match h {
-        Held::Blank => Line::Nothing,
-        Held::Comment => Line::Nothing,
+        Held::Blank | Held::Comment => Line::Nothing,
         Held::Naming(n) => heading_line(text_heading::ended(n)),
-        Held::Whole => Line::Frame,
+        Held::Whole | Held::Dash => Line::Frame,
         Held::Half(_) => Line::Wrong(Fault::HalfByte),
-        Held::Dash => Line::Frame,
         Held::Spoilt(f) => Line::Wrong(f),
     }
-}
-
-// The number of the line after.
-fn line_after(n: u64) -> u64
-    ensures { result ≡ min (n + 1) 18446744073709551615 }
-{
-    if n < 18446744073709551615 { n + 1 } else { n }
 }
 
 #[tactic(auto, unfolding(crate::specs::Reading::next_line))]
 pub fn next_line(w: Reader) -> Reader
     ensures { result ≡ next_line w }
 {
-    let bytes = w.bytes;
     Reader {
-        named: w.named,
-        line: line_after(w.line),
+        line: w.line.saturating_add(1),
         held: Held::Blank,
-        bytes: bytes,
         count: 0,
+        ..w
     }
 }
 
@@ -272,15 +240,7 @@ pub fn next_line(w: Reader) -> Reader
 pub fn with_named(w: Reader) -> Reader
     ensures { result ≡ with_named w }
 {
-    let bytes = w.bytes;
-    let held = w.held;
-    Reader {
-        named: true,
-        line: w.line,
-        held: held,
-        bytes: bytes,
-        count: w.count,
-    }
+    Reader { named: true, ..w }
 }
 
 // Before the first byte of a list.
