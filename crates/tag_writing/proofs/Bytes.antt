@@ -1,5 +1,5 @@
 -- A number's octets, and a field's bytes.
-use Rattle.std.specs.Prelude.{Option, None, Some}
+use Rattle.std.specs.Prelude.{Option, Some}
 use mathlib.Core.Path.{◌≡◌, refl, ap}
 use mathlib.Core.List.{List, [], ◌∷◌}
 use Prim.Native.Nat.{ℕ, zero, suc, ◌-◌, ◌/◌, ◌%◌, ◌≤◌}
@@ -9,8 +9,7 @@ use lib.Seq.{take_all}
 use Rattle.std.specs.Int.{w32, to_be_bytes}
 use Rattle.lighting_levels.specs.Paper.Field.{octets}
 use Rattle.lighting_frames.specs.Paper.Tags.{field_size}
-use Rattle.lighting_frames.specs.declared.TagField.{TagField}
-use Rattle.lighting_frames.specs.declared.TagField.TheVariants.{Holds}
+use Rattle.lighting_frames.specs.declared.TagContent.{TagContent}
 use Rattle.lighting_frames.proofs.Octets.{length_octets}
 
 octets_four : (v : ℕ) → to_be_bytes w32 v ≡ octets 4 v

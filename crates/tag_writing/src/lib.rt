@@ -6,7 +6,7 @@ ghost use Rattle.lighting_levels.specs.Paper.Field.{octets};
 ghost use Rattle.lighting_frames.specs.Paper.Tags.{field_size, field_bytes, tag_bytes, command_tags, tagged_body};
 ghost use Rattle.text_printing.specs.Page.{Wrote};
 
-use lighting_frames::{MOST_TAGGED, TagField, TaggedBody};
+use lighting_frames::{MOST_TAGGED, TagContent, TaggedBody};
 use lighting_outputs::Command;
 use text_printing::Page;
 
@@ -23,16 +23,13 @@ fn put_octets(page: &mut Page, count: u8, v: u32)
 
 // No field is of more than four octets.
 #[tactic(auto, using(text_printing::proofs::Pages::texts, crate::proofs::Bytes::count_most), unfolding(lighting_frames::specs::Paper::Tags::field_bytes))]
-fn put_field(page: &mut Page, number: u8, field: TagField)
+fn put_field(page: &mut Page, number: u8, field: Option<TagContent>)
     requires { (number ≤ 5) × (field_size field ≤ 5) }
     ensures { Wrote page.old (field_bytes number field) page.new }
 {
-    match field {
-        TagField::Holds { count, value } => {
-            page.put(tag_fields::context_tag(number, count));
-            put_octets(page, count, value);
-        }
-        TagField::Missing => {}
+    if let Some(content) = field {
+        page.put(tag_fields::context_tag(number, content.count));
+        put_octets(page, content.count, content.value);
     }
 }
 

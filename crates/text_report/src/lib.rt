@@ -140,12 +140,11 @@ fn put_activity(page: &mut Page, a: Activity)
 }
 
 #[tactic(auto, using(text_printing::proofs::Pages::texts), unfolding(crate::specs::Report::timer_text))]
-fn put_timer(page: &mut Page, t: Timer)
+fn put_timer(page: &mut Page, t: Option<Timer>)
     ensures { Wrote page.old (timer_text t) page.new }
 {
-    match t {
-        Timer::Off => {}
-        Timer::Running { slot: _, due } => put_until(page, b"  duration until ", due),
+    if let Some(timer) = t {
+        put_until(page, b"  duration until ", timer.due);
     }
 }
 
@@ -184,7 +183,12 @@ fn put_time_fields(page: &mut Page, o: Output)
 fn put_relay(page: &mut Page, relay: Relay)
     ensures { Wrote page.old (relay_field relay) page.new }
 {
-    put_either(page, b"  on   ", b"  off  ", output_relay::relay_state(relay));
+    put_either(
+        page,
+        b"  on   ",
+        b"  off  ",
+        output_relay::relay_state(relay),
+    );
 }
 
 #[tactic(auto, using(text_printing::proofs::Pages::texts), unfolding(crate::specs::Report::way_fields))]
