@@ -26,7 +26,7 @@ pub fn hex_value(c: u8) -> Option<u8>
 }
 
 // The byte of two digits.
-#[tactic(auto, using(lighting_levels::proofs::Choosing::ifs), unfolding(crate::specs::Characters::byte_pair))]
+#[tactic(auto, unfolding(crate::specs::Characters::byte_pair))]
 pub fn byte_pair(d: u8, v: u8) -> u8
     ensures { result ≡ byte_pair d v }
 {

@@ -168,7 +168,7 @@ fn grown(w: Word, n: u32, v: u8) -> u32
     ensures { result ≡ grown w n v }
 {
     let m = u64::from(words::base(w)) * u64::from(n) + u64::from(v);
-    m.min(4294967295) as u32
+    u32::try_from(m).unwrap_or(u32::MAX)
 }
 
 // Whether after k digits of a word's number v is one more.

@@ -120,7 +120,7 @@ pub fn bounds(w: Word) -> Bounds
         },
         Word::Tenants => Bounds {
             least: 0,
-            most: 4294967295,
+            most: u32::MAX,
         },
     }
 }

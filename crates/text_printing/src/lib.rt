@@ -79,35 +79,10 @@ fn hex_digit(d: u8) -> u8
     if d < 10 { b'0' + d } else { b'A' - 10 + d }
 }
 
-// A number's decimal digits: the bytes of `bytes` from `from` on.
-#[derive(Drop)]
-pub struct Decimal {
-    pub bytes: [u8; 20],
-    pub from: usize,
-}
-
 pub fn last_digit(n: u64) -> u8
     ensures { result ≡ 48 + n % 10 }
 {
     (48 + n % 10) as u8
-}
-
-// The digits are found from the last one to the first.
-#[tactic(auto, using(crate::proofs::Decimals::digit_start))]
-fn decimal_digits(n: u64) -> Decimal
-    ensures bytes_value { drop result.from result.bytes ≡ decimal n }
-    ensures from_bound { (result.from ≤ 20) × (20 ≡ length result.bytes) }
-{
-    let mut bytes = [0u8; 20];
-    let mut i: usize = 19;
-    let mut rest = n;
-    while 10 <= rest && 0 < i {
-        bytes[i] = last_digit(rest);
-        rest /= 10;
-        i -= 1;
-    }
-    bytes[i] = last_digit(rest);
-    Decimal { bytes, from: i }
 }
 
 impl<'a> Page<'a> {
@@ -135,11 +110,21 @@ impl<'a> Page<'a> {
         self.put_hex_bytes(&v.to_be_bytes());
     }
 
+    // The digits are found from the last one to the first.
+    #[tactic(auto, using(crate::proofs::Decimals::digit_start))]
     pub fn put_decimal(&mut self, n: u64)
         ensures { Wrote self.old (decimal n) self.new }
     {
-        let digits = decimal_digits(n);
-        self.put_all(&digits.bytes[digits.from..]);
+        let mut bytes = [0u8; 20];
+        let mut i: usize = 19;
+        let mut rest = n;
+        while 10 <= rest && 0 < i {
+            bytes[i] = last_digit(rest);
+            rest /= 10;
+            i -= 1;
+        }
+        bytes[i] = last_digit(rest);
+        self.put_all(&bytes[i..]);
     }
 
     // ---- answers

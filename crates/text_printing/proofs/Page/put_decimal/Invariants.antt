@@ -1,6 +1,6 @@
 use Rattle.std.proofs.Common.{◌≡◌, ◌++◌, ◌+◌, ◌≤◌, drop, length}
 use Rattle.text_printing.specs.Writing.{decimal_by, decimal}
-use Rattle.text_printing.proofs.decimal_digits.Given as goal
+use Rattle.text_printing.proofs.Page.put_decimal.Given as goal
 
 abbrev pub invariant-loop-rest : goal.invariant-loop-rest
 invariant-loop-rest l = record {
