@@ -1,6 +1,8 @@
 -- A row of numbers in text, as far as it is read.
-use Rattle.std.specs.Prelude.{ℕ, ◌+◌, ◌*◌, ◌%◌, ◌<◌, Bool, nat_lt, nat_eq, if◌then◌else◌, Option, Some, None, unwrap_or, slice_set, replicate, min}
+use Rattle.std.specs.Prelude.{ℕ, List, [], ◌∷◌, ◌++◌, ◌+◌, ◌*◌, ◌%◌, ◌<◌, Bool, nat_lt, nat_eq, if◌then◌else◌, Option, Some, None, unwrap_or, slice_set, replicate, min}
 use Rattle.std.specs.Char.{is_ascii_digit}
+use Rattle.lighting_frames.specs.Paper.Frames.{Bytes}
+use Rattle.text_printing.specs.Writing.{decimal, newline}
 use Rattle.lent_rows.specs.declared.Row.{Row}
 
 -- nothing of a row
@@ -29,3 +31,11 @@ fed_by r c (Some l) =
 
 abbrev pub fed : Row → ℕ → Row
 fed r c = fed_by r c r.letter
+
+-- A ROW AS TEXT: its letter, a blank before each number, a newline
+unfoldable pub numbers_text : List ℕ → Bytes
+numbers_text [] = []
+numbers_text (n ∷ l) = 32 ∷ (decimal n ++ numbers_text l)
+
+abbrev pub row_text : ℕ → List ℕ → Bytes
+row_text letter l = letter ∷ (numbers_text l ++ newline)

@@ -5,7 +5,8 @@
 
 ghost use Rattle.std.specs.Prelude.{◌≡◌, ℕ, ◌<◌, ◌≤◌, min, slice_index};
 ghost use Rattle.lent_rows.specs.declared.TheConstants.{NUMBERS};
-ghost use Rattle.lent_rows.specs.Rows.{no_row, fed, closed};
+ghost use Rattle.text_printing.specs.Page.{Wrote};
+ghost use Rattle.lent_rows.specs.Rows.{no_row, fed, closed, row_text};
 
 pub mod numbers;
 pub mod outputs;
@@ -13,6 +14,7 @@ pub mod parameters;
 pub mod stations;
 
 use numbers::Narrow;
+use text_printing::Page;
 
 // The numbers of a row: an output's place and its 48 fields. No other row has more.
 pub const NUMBERS: usize = 49;
@@ -105,11 +107,14 @@ impl Row {
 
 // ---- a row, written
 
-pub fn put_row(page: &mut [u8], at: usize, letter: u8, row: &[u64]) -> usize {
-    let mut mark = text_printing::put(page, at, letter);
+#[tactic(auto, using(text_printing::proofs::Pages::texts, crate::proofs::Texts::numbers_more), unfolding(crate::specs::Rows::numbers_text))]
+pub fn put_row(page: &mut Page, letter: u8, row: &[u64])
+    ensures { Wrote page.old (row_text letter row.now) page.new }
+{
+    page.put(letter);
     for n in row {
-        mark = text_printing::put(page, mark, b' ');
-        mark = text_printing::put_decimal(page, mark, *n);
+        page.put(b' ');
+        page.put_decimal(*n);
     }
-    text_printing::put(page, mark, b'\n')
+    page.put(b'\n');
 }

@@ -1,4 +1,3 @@
-pub mod Ends
 pub mod Spelled
 pub mod Through
 pub mod Parts

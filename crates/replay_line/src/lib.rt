@@ -4,100 +4,89 @@
 #![tactic(auto)]
 
 ghost use Rattle.std.specs.Prelude.{◌≡◌};
-ghost use Rattle.lighting_panel.specs.Paper.Panel.{panel_of};
 ghost use Rattle.text_reading.specs.Reading.{content};
 ghost use Rattle.text_printing.specs.Page.{Wrote};
-ghost use Rattle.text_printing.specs.Writing.{answer_line};
-ghost use Rattle.replay_line.specs.Taking.{sent_on, taken};
+ghost use Rattle.replay_line.specs.Tables.{panel_in};
+ghost use Rattle.replay_line.specs.Taking.{sent_on, started_with, taken};
 
 use lighting_frames::Station;
-use lighting_outputs::Output;
+use lighting_outputs::{Answer, Output};
 use lighting_panel::PanelRecord;
+use text_heading::Named;
+use text_printing::Page;
 use text_reading::{Line, Reader};
 
-// After a line: the reader at the next one, the page's mark, and whether the line was a good one.
+// The tables, of any length, and the panel's own record: the panel is the first so many of their records.
 #[derive(Drop)]
-pub struct Ended {
-    pub reader: Reader,
-    pub mark: usize,
-    pub good: bool,
+pub struct Tables<'a> {
+    pub outputs: &'a mut [Output],
+    pub stations: &'a mut [Station],
+    pub kept: &'a mut PanelRecord,
+}
+
+// The panel of the set that a list names is started.
+fn start(tables: &mut Tables, named: Named)
+    ensures { panel_in tables.new ≡ started_with named (panel_in tables.old) }
+{
+    let set = named.parameters;
+    lent_parts::start(
+        tables.outputs,
+        tables.stations,
+        tables.kept,
+        set.outputs as usize,
+        set.stations as usize,
+        set,
+        named.tenants,
+    );
 }
 
 // The bytes go to the panel of the kept set: the first ones of those that the reader keeps.
-#[tactic(auto, using(crate::proofs::Ends::sent_by), unfolding(text_reading::specs::Reading::content))]
-fn answer(
-    outputs: &mut [Output],
-    stations: &mut [Station],
-    kept: &mut PanelRecord,
-    page: &mut [u8],
-    mark: usize,
-    r: Reader,
-) -> usize
-    ensures wrote { Wrote page.old mark (answer_line (sent_on (content r) (panel_of outputs.old stations.old kept.old)).answer) page.new result }
-    ensures kept_after { panel_of outputs.new stations.new kept.new ≡ (sent_on (content r) (panel_of outputs.old stations.old kept.old)).panel }
+#[tactic(auto, unfolding(text_reading::specs::Reading::content))]
+fn send(tables: &mut Tables, reader: &Reader) -> Answer
+    ensures value { result ≡ (sent_on (content reader.now) (panel_in tables.old)).answer }
+    ensures kept_after { panel_in tables.new ≡ (sent_on (content reader.now) (panel_in tables.old)).panel }
 {
-    let record = *kept;
-    let set = panel_record::parameters_of(record);
-    let n = number_ranges::wide_index(set.outputs);
-    let k = number_ranges::wide_index(set.stations);
-    let bytes = r.bytes;
-    let a = lent_parts::send(outputs, stations, kept, n, k, &bytes, r.count);
-    text_printing::put_answer(page, mark, a)
+    let set = tables.kept.parameters;
+    lent_parts::send(
+        tables.outputs,
+        tables.stations,
+        tables.kept,
+        set.outputs as usize,
+        set.stations as usize,
+        &reader.bytes,
+        reader.count,
+    )
 }
 
-#[tactic(auto, using(crate::proofs::Ends::ended, crate::proofs::Ends::started_by, text_printing::proofs::Pages::wrote_none), unfolding(crate::specs::Taking::taken_by))]
-pub fn take_line(
-    outputs: &mut [Output],
-    stations: &mut [Station],
-    kept: &mut PanelRecord,
-    page: &mut [u8],
-    mark: usize,
-    r: Reader,
-) -> Ended
-    ensures reader_value { result.reader ≡ (taken (panel_of outputs.old stations.old kept.old) r).reader }
-    ensures good_value { result.good ≡ (taken (panel_of outputs.old stations.old kept.old) r).good }
-    ensures wrote { Wrote page.old mark (taken (panel_of outputs.old stations.old kept.old) r).text page.new result.mark }
-    ensures kept_after { panel_of outputs.new stations.new kept.new ≡ (taken (panel_of outputs.old stations.old kept.old) r).panel }
+// The line that the reader has come to the end of. The reader is then at the next line; the answer: whether
+// the line was a good one.
+#[tactic(auto, using(text_printing::proofs::Pages::texts), unfolding(crate::specs::Taking::taken, crate::specs::Taking::taken_by))]
+pub fn take_line(tables: &mut Tables, page: &mut Page, reader: &mut Reader) -> bool
+    ensures reader_value { reader.new ≡ (taken (panel_in tables.old) reader.old).reader }
+    ensures good_value { result ≡ (taken (panel_in tables.old) reader.old).good }
+    ensures wrote { Wrote page.old (taken (panel_in tables.old) reader.old).text page.new }
+    ensures kept_after { panel_in tables.new ≡ (taken (panel_in tables.old) reader.old).panel }
 {
-    let held = r.held;
-    let number = r.line;
-    let line = text_reading::line_of(held);
-    let next = text_reading::next_line(r);
-    match line {
-        Line::Nothing => Ended {
-            reader: next,
-            mark: mark,
-            good: true,
-        },
+    match text_reading::line_of(reader.held) {
+        Line::Nothing => {
+            *reader = text_reading::next_line(*reader);
+            true
+        }
         Line::Started(named) => {
-            let set = named.parameters;
-            let n = number_ranges::wide_index(set.outputs);
-            let k = number_ranges::wide_index(set.stations);
-            lent_parts::start(outputs, stations, kept, n, k, set, named.tenants);
-            let begun = text_reading::with_named(next);
-            Ended {
-                reader: begun,
-                mark: mark,
-                good: true,
-            }
+            start(tables, named);
+            *reader = text_reading::with_named(text_reading::next_line(*reader));
+            true
         }
-        // The reader is made again after the frame: one that was made before would take registers on its way.
         Line::Frame => {
-            let m = answer(outputs, stations, kept, page, mark, r);
-            let after = text_reading::next_line(r);
-            Ended {
-                reader: after,
-                mark: m,
-                good: true,
-            }
+            let answer = send(tables, reader);
+            page.put_answer(answer);
+            *reader = text_reading::next_line(*reader);
+            true
         }
-        Line::Wrong(f) => {
-            let m = text_faults::put_fault(page, mark, number, f);
-            Ended {
-                reader: next,
-                mark: m,
-                good: false,
-            }
+        Line::Wrong(fault) => {
+            text_faults::put_fault(page, reader.line, fault);
+            *reader = text_reading::next_line(*reader);
+            false
         }
     }
 }

@@ -1,0 +1,6 @@
+-- The tables that a list's panel is lent, as the panel that they are.
+use Rattle.lighting_panel.specs.Paper.Panel.{Panel, panel_of}
+use Rattle.replay_line.specs.declared.Tables.{Tables}
+
+abbrev pub panel_in : Tables → Panel
+panel_in t = panel_of t.outputs.now t.stations.now t.kept.now
