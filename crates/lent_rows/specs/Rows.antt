@@ -1,5 +1,5 @@
 -- A row of numbers in text, as far as it is read.
-use Rattle.std.specs.Prelude.{ℕ, List, [], ◌∷◌, ◌++◌, ◌+◌, ◌*◌, ◌%◌, ◌<◌, Bool, nat_lt, nat_eq, if◌then◌else◌, Option, Some, None, unwrap_or, slice_set, replicate, min}
+use Rattle.std.specs.Prelude.{ℕ, List, [], ◌∷◌, ◌++◌, ◌+◌, ◌*◌, ◌%◌, nat_lt, nat_eq, if◌then◌else◌, Option, Some, None, unwrap_or, slice_set, replicate, min}
 use Rattle.std.specs.Char.{is_ascii_digit}
 use Rattle.lighting_frames.specs.Paper.Frames.{Bytes}
 use Rattle.text_printing.specs.Writing.{decimal, newline}

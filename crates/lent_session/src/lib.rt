@@ -26,6 +26,7 @@ use lighting_outputs::{Answer, Output, Parameters};
 use lighting_panel::PanelRecord;
 use std::io;
 use std::io::{Read, Write};
+use text_printing::Page;
 
 // ---- the tables
 
@@ -116,50 +117,39 @@ fn put_records<R: Record, W: Write>(
     records: &[R],
     lent: usize,
     out: &mut W,
-    page: &mut [u8],
-    mark: usize,
-) -> io::Result<usize> {
-    let mut mark = mark;
+    page: &mut Page,
+) -> io::Result<()> {
     for (at, record) in records.iter().enumerate().take(lent) {
         if !lent_rows::is_fresh(*record) {
+            text_found::with_room(out, page)?;
             let row = record.row(at);
-            mark = text_found::with_room(out, page, mark)?;
-            mark = lent_rows::put_row(page, mark, R::LETTER, &row[..R::LENGTH]);
+            lent_rows::put_row(page, R::LETTER, &row[..R::LENGTH]);
         }
     }
-    Ok(mark)
+    Ok(())
 }
 
-fn put_left<W: Write>(
-    tables: &Tables,
-    out: &mut W,
-    page: &mut [u8],
-    mark: usize,
-) -> io::Result<usize> {
+fn put_left<W: Write>(tables: &Tables, out: &mut W, page: &mut Page) -> io::Result<()> {
+    text_found::with_room(out, page)?;
     let counts = [
         tables.lent_outputs as u64,
         tables.lent_stations as u64,
         tables.kept.time,
     ];
+    lent_rows::put_row(page, b't', &counts);
+    text_found::with_room(out, page)?;
     let set = parameters_numbers(tables.kept.parameters, tables.kept.tenants);
-    let room = text_found::with_room(out, page, mark)?;
-    let head = lent_rows::put_row(page, room, b't', &counts);
-    let room = text_found::with_room(out, page, head)?;
-    let head = lent_rows::put_row(page, room, b'p', &set);
-    let middle = put_records(&tables.outputs, tables.lent_outputs, out, page, head)?;
-    put_records(&tables.stations, tables.lent_stations, out, page, middle)
+    lent_rows::put_row(page, b'p', &set);
+    put_records(&tables.outputs, tables.lent_outputs, out, page)?;
+    put_records(&tables.stations, tables.lent_stations, out, page)
 }
 
 // ---- rows
 
-fn put_answer<W: Write>(
-    answer: Answer,
-    out: &mut W,
-    page: &mut [u8],
-    mark: usize,
-) -> io::Result<usize> {
-    let room = text_found::with_room(out, page, mark)?;
-    Ok(text_printing::put_answer(page, room, answer))
+fn put_answer<W: Write>(answer: Answer, out: &mut W, page: &mut Page) -> io::Result<()> {
+    text_found::with_room(out, page)?;
+    page.put_answer(answer);
+    Ok(())
 }
 
 // A row at its end.
@@ -167,9 +157,8 @@ fn take_row<W: Write>(
     tables: &mut Tables,
     row: &Row,
     out: &mut W,
-    page: &mut [u8],
-    mark: usize,
-) -> io::Result<usize> {
+    page: &mut Page,
+) -> io::Result<()> {
     let numbers = &row.numbers;
     match row.letter {
         Some(b't') => tables.clear(numbers),
@@ -182,16 +171,16 @@ fn take_row<W: Write>(
         ),
         Some(b'b') => {
             let answer = tables.start(parameters_of(numbers), tenants_of(numbers));
-            return put_answer(answer, out, page, mark);
+            put_answer(answer, out, page)?;
         }
         Some(b'f') => {
             let answer = tables.send(&row.bytes(), row.count);
-            return put_answer(answer, out, page, mark);
+            put_answer(answer, out, page)?;
         }
-        Some(b'l') => return put_left(tables, out, page, mark),
+        Some(b'l') => put_left(tables, out, page)?,
         _ => {}
     }
-    Ok(mark)
+    Ok(())
 }
 
 // ---- the text
@@ -202,48 +191,46 @@ fn take_chunk<W: Write>(
     row: &mut Row,
     s: &[u8],
     out: &mut W,
-    page: &mut [u8],
-    mark: usize,
-) -> io::Result<usize> {
-    let mut mark = mark;
+    page: &mut Page,
+) -> io::Result<()> {
     for c in s {
         if *c == b'\n' {
             row.close();
-            mark = take_row(tables, row, out, page, mark)?;
+            take_row(tables, row, out, page)?;
             *row = Row::new();
         } else {
             row.feed(*c);
         }
     }
-    Ok(mark)
+    Ok(())
 }
 
-// All of it: the page's mark at its end. A proved loop has to end, and nothing says that the input does: the
-// turns are counted up to a number that no run comes to.
+// All of it. A proved loop has to end, and nothing says that the input does: the turns are counted up to a
+// number that no run comes to.
 fn take_all<R: Read, W: Write>(
     tables: &mut Tables,
     input: &mut R,
     chunk: &mut [u8],
     out: &mut W,
-    page: &mut [u8],
-) -> io::Result<usize> {
+    page: &mut Page,
+) -> io::Result<()> {
     let mut row = Row::new();
-    let mut mark = 0;
     for _ in 0..u64::MAX {
         let n = input.read(chunk)?;
         if n == 0 {
             break;
         }
-        mark = take_chunk(tables, &mut row, &chunk[..n], out, page, mark)?;
+        take_chunk(tables, &mut row, &chunk[..n], out, page)?;
     }
-    Ok(mark)
+    Ok(())
 }
 
 // Over tables of its own.
 pub fn run<R: Read, W: Write>(input: &mut R, out: &mut W) -> io::Result<()> {
     let mut tables = Tables::new();
-    let mut page = [0u8; 65536];
+    let mut bytes = [0u8; 65536];
+    let mut page = Page::new(&mut bytes);
     let mut chunk = [0u8; 65536];
-    let mark = take_all(&mut tables, input, &mut chunk, out, &mut page)?;
-    text_found::flush(out, &page, mark)
+    take_all(&mut tables, input, &mut chunk, out, &mut page)?;
+    text_found::flush(out, &page)
 }

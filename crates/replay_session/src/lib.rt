@@ -9,245 +9,153 @@
 #![tactic(auto)]
 
 ghost use Rattle.std.specs.Prelude.{◌≡◌, IfOk, OnErr, OnOk};
-ghost use Rattle.lighting_panel.specs.Paper.Panel.{panel_of};
 ghost use Rattle.text_reading.specs.Reading.{fresh_reader};
+ghost use Rattle.replay_line.specs.Tables.{panel_in};
 ghost use Rattle.replay_line.specs.Taking.{taken, through, Went, Replayed};
 ghost use Rattle.replay_session.specs.Reached.{Reached, ReachedIn};
 
-use lighting_frames::Station;
-use lighting_outputs::Output;
-use lighting_panel::PanelRecord;
+use replay_line::Tables;
 use std::io;
 use std::io::{Read, Write};
+use text_printing::Page;
 use text_reading::Reader;
-
-// After some of the list: the reader, the page's mark, whether more of the list may come, and whether all
-// lines were good.
-#[derive(Drop)]
-struct Turn {
-    reader: Reader,
-    mark: usize,
-    more: bool,
-    good: bool,
-}
 
 // ---- the list
 
-// The lines that end in these bytes are taken. A page that is full is written out on the way. An error comes
-// after the end of a line, which is taken.
+// The lines that end in these bytes are taken, up to a bad one; the answer: whether all of them were good. A
+// page that is full is written out on the way. An error comes after the end of a line, which is taken.
 #[tactic(auto, using(replay_line::proofs::Through::text_over))]
 fn take_chunk<W: Write>(
-    outputs: &mut [Output],
-    stations: &mut [Station],
-    kept: &mut PanelRecord,
-    out: &mut W,
-    page: &mut [u8],
-    mark: usize,
-    r: Reader,
+    tables: &mut Tables,
+    reader: &mut Reader,
     s: &[u8],
-) -> io::Result<Turn>
-    ensures reader_value { IfOk result (λ t. t.reader ≡ (through (panel_of outputs.old stations.old kept.old) r s.now).reader) }
-    ensures good_value { IfOk result (λ t. t.good ≡ (through (panel_of outputs.old stations.old kept.old) r s.now).good) }
-    ensures kept_after { OnOk result (panel_of outputs.new stations.new kept.new ≡ (through (panel_of outputs.old stations.old kept.old) r s.now).panel) }
-    ensures err { OnErr result (ReachedIn s.now (panel_of outputs.old stations.old kept.old) r (panel_of outputs.new stations.new kept.new)) }
+    out: &mut W,
+    page: &mut Page,
+) -> io::Result<bool>
+    ensures reader_value { OnOk result (reader.new ≡ (through (panel_in tables.old) reader.old s.now).reader) }
+    ensures good_value { IfOk result (λ good. good ≡ (through (panel_in tables.old) reader.old s.now).good) }
+    ensures kept_after { OnOk result (panel_in tables.new ≡ (through (panel_in tables.old) reader.old s.now).panel) }
+    ensures err { OnErr result (ReachedIn s.now (panel_in tables.old) reader.old (panel_in tables.new)) }
 {
-    let mut reader = r;
-    let mut at = mark;
     let mut i: usize = 0;
     while i < s.len() {
-        let fed = text_reading::feed_line(reader, s, i);
-        let held = fed.reader;
-        reader = held;
+        let fed = text_reading::feed_line(*reader, s, i);
+        *reader = fed.reader;
         i = fed.next;
         if i < s.len() {
             i += 1;
-            let t = replay_line::take_line(outputs, stations, kept, page, at, reader);
-            let next = t.reader;
-            reader = next;
-            at = text_found::with_room(out, page, t.mark)?;
-            if !t.good {
-                return Ok(Turn {
-                    reader: reader,
-                    mark: at,
-                    more: true,
-                    good: false,
-                });
+            let good = replay_line::take_line(tables, page, reader);
+            text_found::with_room(out, page)?;
+            if !good {
+                return Ok(false);
             }
         }
     }
-    Ok(Turn {
-        reader: reader,
-        mark: at,
-        more: true,
-        good: true,
-    })
+    Ok(true)
 }
 
-// Reads once, and takes what came; nothing comes at the end of the input.
-#[tactic(auto, using(crate::proofs::Reaching::reached_none, crate::proofs::Reaching::reached_part, replay_line::proofs::Parts::went_none))]
-fn take_some<R: Read, W: Write>(
-    outputs: &mut [Output],
-    stations: &mut [Station],
-    kept: &mut PanelRecord,
-    input: &mut R,
-    out: &mut W,
-    page: &mut [u8],
-    chunk: &mut [u8],
-    mark: usize,
-    r: Reader,
-) -> io::Result<Turn>
-    ensures went { IfOk result (λ t. Went (panel_of outputs.old stations.old kept.old) r (panel_of outputs.new stations.new kept.new) t.reader t.good) }
-    ensures err { OnErr result (Reached (panel_of outputs.old stations.old kept.old) r (panel_of outputs.new stations.new kept.new)) }
-{
-    let n = input.read(chunk)?;
-    if n == 0 {
-        return Ok(Turn {
-            reader: r,
-            mark: mark,
-            more: false,
-            good: true,
-        });
-    }
-    take_chunk(outputs, stations, kept, out, page, mark, r, &chunk[0..n])
-}
-
-// All of it. A proved loop has to end, and nothing says that the input does: the turns are counted up to a
-// number that no run comes to.
+// All of it, up to a bad line; the answer: whether there was none. A proved loop has to end, and nothing says
+// that the input does: the turns are counted up to a number that no run comes to.
 #[tactic(auto, using(replay_line::proofs::Parts::went_none, replay_line::proofs::Parts::went_then))]
 fn take_all<R: Read, W: Write>(
-    outputs: &mut [Output],
-    stations: &mut [Station],
-    kept: &mut PanelRecord,
+    tables: &mut Tables,
+    reader: &mut Reader,
     input: &mut R,
-    out: &mut W,
-    page: &mut [u8],
     chunk: &mut [u8],
-) -> io::Result<Turn>
-    ensures went { IfOk result (λ t. Went (panel_of outputs.old stations.old kept.old) fresh_reader (panel_of outputs.new stations.new kept.new) t.reader t.good) }
-    ensures err { OnErr result (Reached (panel_of outputs.old stations.old kept.old) fresh_reader (panel_of outputs.new stations.new kept.new)) }
+    out: &mut W,
+    page: &mut Page,
+) -> io::Result<bool>
+    ensures went { IfOk result (λ good. Went (panel_in tables.old) reader.old (panel_in tables.new) reader.new good) }
+    ensures err { OnErr result (Reached (panel_in tables.old) reader.old (panel_in tables.new)) }
 {
-    let mut reader = text_reading::fresh_reader();
-    let mut mark: usize = 0;
     for _ in 0..u64::MAX {
-        let t = take_some(
-            outputs, stations, kept, input, out, page, chunk, mark, reader,
-        )?;
-        if !t.good {
-            return Ok(t);
+        let n = input.read(chunk)?;
+        if n == 0 {
+            break;
         }
-        if !t.more {
-            return Ok(t);
+        let good = take_chunk(tables, reader, &chunk[..n], out, page)?;
+        if !good {
+            return Ok(false);
         }
-        mark = t.mark;
-        reader = t.reader;
     }
-    Ok(Turn {
-        reader: reader,
-        mark: mark,
-        more: true,
-        good: true,
-    })
+    Ok(true)
 }
 
 // ---- its end
 
-// A list that named no outputs has found nothing.
+// What is found, of a list that named its outputs.
 fn put_end<W: Write>(
-    outputs: &[Output],
-    count: usize,
-    time: u64,
+    tables: &Tables,
     out: &mut W,
-    page: &mut [u8],
-    mark: usize,
+    page: &mut Page,
     report: bool,
-    line: u64,
-    r: Reader,
-) -> io::Result<usize> {
-    if r.named {
-        text_found::put_found(outputs, count, time, out, page, mark, report)
-    } else {
-        Ok(text_faults::put_ended(page, mark, line))
-    }
+) -> io::Result<()> {
+    let kept = *tables.kept;
+    text_found::put_found(
+        tables.outputs,
+        kept.parameters.outputs as usize,
+        kept.time,
+        out,
+        page,
+        report,
+    )
 }
 
 // The last line may lack its newline. It is taken before an error can come.
 fn end_list<W: Write>(
-    outputs: &mut [Output],
-    stations: &mut [Station],
-    kept: &mut PanelRecord,
+    tables: &mut Tables,
+    reader: &mut Reader,
     out: &mut W,
-    page: &mut [u8],
-    mark: usize,
-    r: Reader,
+    page: &mut Page,
     report: bool,
-) -> io::Result<usize>
-    ensures { panel_of outputs.new stations.new kept.new ≡ (taken (panel_of outputs.old stations.old kept.old) r).panel }
+) -> io::Result<()>
+    ensures { panel_in tables.new ≡ (taken (panel_in tables.old) reader.old).panel }
 {
-    let line = r.line;
-    let t = replay_line::take_line(outputs, stations, kept, page, mark, r);
-    if t.good {
-        let last = t.reader;
-        let record = *kept;
-        let set = panel_record::parameters_of(record);
-        put_end(
-            outputs,
-            number_ranges::wide_index(set.outputs),
-            panel_record::time_of(record),
-            out,
-            page,
-            t.mark,
-            report,
-            line,
-            last,
-        )
+    let line = reader.line;
+    if !replay_line::take_line(tables, page, reader) {
+        return Ok(());
+    }
+    if reader.named {
+        put_end(tables, out, page, report)
     } else {
-        Ok(t.mark)
+        text_faults::put_ended(page, line);
+        Ok(())
     }
 }
 
 // An error too leaves the tables as some text of a list does: as the lines that were taken.
 #[tactic(auto, using(crate::proofs::Reaching::replayed_part, replay_line::proofs::Parts::replayed, replay_line::proofs::Parts::replayed_bad, replay_line::proofs::Parts::went_is))]
 fn replay<R: Read, W: Write>(
-    outputs: &mut [Output],
-    stations: &mut [Station],
-    kept: &mut PanelRecord,
+    tables: &mut Tables,
     input: &mut R,
-    out: &mut W,
-    page: &mut [u8],
     chunk: &mut [u8],
+    out: &mut W,
+    page: &mut Page,
     report: bool,
 ) -> io::Result<()>
-    ensures { Replayed (panel_of outputs.old stations.old kept.old) (panel_of outputs.new stations.new kept.new) }
+    ensures { Replayed (panel_in tables.old) (panel_in tables.new) }
 {
-    let t = take_all(outputs, stations, kept, input, out, page, chunk)?;
-    if t.good {
-        let reader = t.reader;
-        let mark = end_list(outputs, stations, kept, out, page, t.mark, reader, report)?;
-        text_found::flush(out, page, mark)
-    } else {
-        text_found::flush(out, page, t.mark)
+    let mut reader = text_reading::fresh_reader();
+    if take_all(tables, &mut reader, input, chunk, out, page)? {
+        end_list(tables, &mut reader, out, page, report)?;
     }
+    text_found::flush(out, page)
 }
 
 // Over tables of its own, which the panel is lent: 64 outputs and 32 stations, of which the list names how
 // many there are.
 pub fn run<R: Read, W: Write>(input: &mut R, out: &mut W, report: bool) -> io::Result<()> {
     let parameters = panel_record::four_hours(64);
-    let output = output_fresh::fresh_output(parameters);
-    let mut outputs = [output; 64];
-    let record = output_fresh::fresh_station();
-    let mut stations = [record; 32];
+    let mut outputs = [output_fresh::fresh_output(parameters); 64];
+    let mut stations = [output_fresh::fresh_station(); 32];
     let mut kept = panel_record::fresh_record(parameters, 0);
-    let mut page = [0u8; 65536];
+    let mut tables = Tables {
+        outputs: &mut outputs,
+        stations: &mut stations,
+        kept: &mut kept,
+    };
+    let mut bytes = [0u8; 65536];
+    let mut page = Page::new(&mut bytes);
     let mut chunk = [0u8; 65536];
-    replay(
-        &mut outputs,
-        &mut stations,
-        &mut kept,
-        input,
-        out,
-        &mut page,
-        &mut chunk,
-        report,
-    )
+    replay(&mut tables, input, &mut chunk, out, &mut page, report)
 }

@@ -1,5 +1,5 @@
 use Rattle.std.proofs.Common.{◌≡◌, ◌-◌, length, drop}
-use Rattle.lighting_panel.specs.Paper.Panel.{panel_of}
+use Rattle.replay_line.specs.Tables.{panel_in}
 use Rattle.replay_line.specs.Taking.{through}
 use Rattle.replay_session.proofs.Reaching.{GoodSoFar}
 use Rattle.replay_session.proofs.take_chunk.Given as goal
@@ -7,8 +7,8 @@ use Rattle.replay_session.proofs.take_chunk.Given as goal
 -- the text that is left comes to what the whole text comes to, and the lines before were good
 abbrev pub invariant-loop-i : goal.invariant-loop-i
 invariant-loop-i g l = record {
-  rest : through (panel_of l.outputs l.stations l.kept) l.reader (drop l.i l.s) ≡ through (panel_of l.fn.outputs l.fn.stations l.fn.kept) l.fn.r l.s;
-  before : GoodSoFar (panel_of l.fn.outputs l.fn.stations l.fn.kept) l.fn.r l.s l.i (panel_of l.outputs l.stations l.kept) l.reader;
+  rest : through (panel_in l.tables) l.reader (drop l.i l.s) ≡ through (panel_in l.fn.tables) l.fn.reader l.s;
+  before : GoodSoFar (panel_in l.fn.tables) l.fn.reader l.s l.i (panel_in l.tables) l.reader;
 }
 
 abbrev pub decreases-loop-i : goal.decreases-loop-i
