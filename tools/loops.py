@@ -48,7 +48,7 @@ crates = {name.split('::')[0] for name in bodies}
 calls = {}
 for name, body in bodies.items():
     calls[name] = set()
-    for path, function in re.findall(r'\b((?:\w+::)*)(\w+)\s*\(', body):
+    for path, function in re.findall(r'(?<![.\w])((?:\w+::)*)(\w+)\s*\(', body):
         first = path.split('::')[0] or function
         first = brought[name].get(first, first)
         called = '%s::%s' % (first if first in crates else name.split('::')[0], function)

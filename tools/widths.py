@@ -33,8 +33,8 @@ for path in sorted(glob.glob('crates/*/src/*.rt')):
             taken = [part.split(':')[1].strip() for part in head.group(2).split(',') if ':' in part]
             types = '%s -> %s' % (', '.join(taken), head.group(3))
             body = text[text.index('{\n', at):end] if '{\n' in text[at:end] else ''
-            # what stands before `as u64` (a name, a field, a call, or something in brackets), what is widened by
-            # `u64::from`, the moment of a record, and a variable that is said to be wide
+            # what stands before `as u64` (a name, a field, a call, or something in brackets), what is widened
+            # by `u64::from`, the moment of a record, and a variable that is said to be wide
             widened = re.findall(r'((?:[\w.]+(?:\([^()]*\))?|\([^()]*(?:\([^()]*\)[^()]*)*\)))\s+as u64', body)
             widened += re.findall(r'u64::from\(((?:[^()]|\([^()]*(?:\([^()]*\))?[^()]*\))*)\)', body)
             widened += re.findall(r'\w+\.over\b', body) + re.findall(r'let (?:mut )?(\w+)\s*:\s*u64', body)

@@ -67,7 +67,8 @@ fn command_row(k: u8) -> KindRow
 
 // The row of a kind byte: its length, from which the length test follows, and its kind, from which the action
 // follows.
-// Stays: a match with ranges, by two tables, as the paper names it (docs/PROMISES.md, 'Language forms by place').
+// Stays: a match with ranges, by two tables, as the paper names it (docs/PROMISES.md, 'Language forms by
+// place').
 #[tactic(auto, using(crate::proofs::Table::table))]
 pub fn kind_row(k: u8) -> KindRow
     ensures { result ≡ kind_row k }

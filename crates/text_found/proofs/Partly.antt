@@ -1,4 +1,5 @@
--- What is found of the first outputs, one more each time: the page that an error leaves has the first of them.
+-- What is found of the first outputs, one more each time: the page that an error leaves has the first of
+-- them.
 use mathlib.Core.Path.{◌≡◌, sym, ap, ◌∙◌}
 use mathlib.Core.Bool.{Bool}
 use mathlib.Core.List.{List, [], ◌∷◌, ◌++◌}

@@ -184,7 +184,8 @@ marked_free size at h =
     (λ l e. rw e (omega arith))
 
 module _ (s : Page) (h : 1024 < length s.bytes.now) where
-  -- what was written on the page with room, and fits 1,024 bytes, stands whole after what stood before the mark
+  -- what was written on the page with room, and fits 1,024 bytes, stands whole after what stood before the
+  -- mark
   whole : (x : Bytes) → length x ≤ 1024 → take (with_text (with_room s) x).mark (with_text (with_room s) x).bytes.now ≡ take (with_room s).mark s.bytes.now ++ x
   unfolding with_room
   whole x l = (written (with_room s) x (omega (arith, marked_free (length s.bytes.now) s.mark h))).1

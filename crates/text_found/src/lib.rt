@@ -48,7 +48,8 @@ pub fn with_room<W: Write>(out: &mut W, page: &mut Page) -> io::Result<()>
 
 // ---- what is found
 
-// Stays: `report` is the yes or no of which the definition with_found and the theorems of proofs/Room.antt speak.
+// Stays: `report` is the yes or no of which the definition `with_found` and the theorems of proofs/Room.antt
+// speak.
 
 // An output: its block of lines, or its line of the report.
 #[tactic(auto, using(text_printing::proofs::Pages::texts, lighting_levels::proofs::Choosing::ifs), unfolding(crate::specs::Found::found_output))]
@@ -73,8 +74,8 @@ fn put_head(page: &mut Page, report: bool, time: u64)
     }
 }
 
-// Every output of the panel, on as many pages as it takes: the last page. An error leaves on the page what some
-// of the outputs, from the first on, put there.
+// Every output of the panel, on as many pages as it takes: the last page. An error leaves on the page what
+// some of the outputs, from the first on, put there.
 pub fn put_found<W: Write>(
     outputs: &[Output],
     n: usize,

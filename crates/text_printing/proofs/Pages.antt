@@ -62,7 +62,8 @@ pub with_text_out : (p : Page) (x : Bytes) → length p.bytes.now ≤ p.mark →
 unfolding with_text
 with_text_out p x h = page_with p (sets_out p.bytes.now p.mark x h) (omega arith)
 
--- a text that is put in pieces, and one that may be none: what a function that puts several names in its attribute
+-- a text that is put in pieces, and one that may be none: what a function that puts several names in its
+-- attribute
 pub ruleset texts = (with_text_then, with_text_none, append_assoc, append-nil)
 
 -- one byte

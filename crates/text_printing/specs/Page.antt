@@ -1,5 +1,5 @@
--- A page: a lent stretch of bytes, with a mark up to which it is written. What comes past the page's end is not
--- written.
+-- A page: a lent stretch of bytes, with a mark up to which it is written. What comes past the page's end is
+-- not written.
 use Rattle.std.specs.Prelude.{◌≡◌, ◌+◌, min, max, length}
 use Rattle.std.proofs.lemmas.List.Edits.{sets}
 use Rattle.lighting_frames.specs.Paper.Frames.{Bytes}

@@ -1,6 +1,6 @@
 // Text written on a page: a lent stretch of bytes, of which the bytes before a mark are the text so far. Each
-// method writes from the mark on and moves it; what comes past the page's end is not written, so that none asks
-// for room.
+// method writes from the mark on and moves it; what comes past the page's end is not written, so that none
+// asks for room.
 #![tactic(auto, using(crate::proofs::Pages::texts))]
 
 ghost use Rattle.std.specs.Prelude.{◌≡◌, ◌∷◌, [], ◌++◌, ◌+◌, ◌%◌, ◌-◌, ◌≤◌, ◌<◌, drop, take, length};

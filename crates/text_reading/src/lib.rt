@@ -137,8 +137,8 @@ fn feed_bytes(w: Reader, s: &[u8], from: usize) -> Fed
     ensures s_value_2 { result.next + line_length (drop result.next s.now) ≡ from + line_length (drop from s.now) }
     ensures from_le_next { (from ≤ result.next) × (result.next ≤ length s.now) }
 {
-    // Stays: a turn takes one character or two, and the place where the run ends is handed back, so that no `for`
-    // over the bytes and no iterator is plainer.
+    // Stays: a turn takes one character or two, and the place where the run ends is handed back, so that no
+    // `for` over the bytes and no iterator is plainer.
     let mut held = w.held;
     let mut bytes = w.bytes;
     let mut count = w.count;
