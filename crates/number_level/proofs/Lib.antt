@@ -2,3 +2,4 @@
 mod Numbers
 mod Scaled
 mod Tested
+pub mod Missing

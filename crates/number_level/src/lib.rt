@@ -5,7 +5,7 @@
 ghost use Rattle.std.specs.Prelude.{◌≡◌, ◌≤◌, ◌<◌, ◌^◌};
 ghost use Rattle.std.specs.Float.{binary32};
 ghost use Rattle.std.specs.Float.Ieee.{nan_bits};
-ghost use Rattle.lighting_levels.specs.Paper.Level.{greatest_level, least_amount, real, bits, nearest_to, amount_of, limit_of, level_of, in_range, units_or, amount_units, level_units, real_of, read_out};
+ghost use Rattle.lighting_levels.specs.Paper.Level.{greatest_level, least_amount, real, bits, nearest_to, amount_of, limit_of, level_of, units_or, amount_units, level_units, real_of, read_out};
 
 use lighting_levels::{GREATEST_LEVEL, LEAST_LEVEL};
 
@@ -104,45 +104,32 @@ pub fn level_of(pattern: u32) -> Option<u32>
     level_of_real(real_from(pattern))
 }
 
-// ---- in range or not
-
-#[tactic(auto, unfolding(lighting_levels::specs::Paper::Level::in_range))]
-pub fn in_range(level: Option<u32>) -> bool
-    ensures { result ≡ in_range level }
-{
-    match level {
-        Some(_) => true,
-        None => false,
-    }
-}
+// ---- where a REAL is out of range
 
 #[tactic(auto, unfolding(lighting_levels::specs::Paper::Level::units_or))]
 pub fn units_or(otherwise: u32, level: Option<u32>) -> u32
     ensures { result ≡ units_or otherwise level }
 {
-    match level {
-        Some(units) => units,
-        None => otherwise,
-    }
+    level.unwrap_or(otherwise)
 }
 
 // A rate or a step that is kept as a REAL: from 0.125 to 100 percent, whatever the REAL, so that a division
 // by it is safe.
-#[tactic(auto, using(lighting_levels::proofs::Ranges::amount_range), unfolding(lighting_levels::specs::Paper::Level::amount_units))]
+#[tactic(auto, unfolding(lighting_levels::specs::Paper::Level::amount_units, lighting_levels::specs::Paper::Level::units_or))]
 pub fn amount_units(x: f32) -> u32
     ensures value { result ≡ amount_units x }
     ensures lower_bound { (least_amount ≤ result) × (result ≤ greatest_level) }
 {
-    units_or(LEAST_AMOUNT, amount_of_real(x))
+    amount_of_real(x).unwrap_or(LEAST_AMOUNT)
 }
 
 // A command's level that is kept as a REAL.
-#[tactic(auto, unfolding(lighting_levels::specs::Paper::Level::level_units))]
+#[tactic(auto, unfolding(lighting_levels::specs::Paper::Level::level_units, lighting_levels::specs::Paper::Level::units_or))]
 pub fn level_units(x: f32) -> u32
     ensures value { result ≡ level_units x }
     ensures upper_bound { result ≤ greatest_level }
 {
-    units_or(0, level_of_real(x))
+    level_of_real(x).unwrap_or(0)
 }
 
 // ---- from a level to a REAL

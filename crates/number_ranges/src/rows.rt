@@ -48,11 +48,11 @@ pub fn row_of(parameters: Parameters, p: Property) -> Range
 // ---- what is kept
 
 // A rate or a step, 0.125 to 100; and by its pattern.
-#[tactic(auto, unfolding(lighting_outputs::specs::Paper::Rows::is_amount))]
+#[tactic(auto, unfolding(lighting_outputs::specs::Paper::Rows::is_amount, lighting_levels::specs::Paper::Level::in_range))]
 pub fn is_amount(x: f32) -> bool
     ensures { result ≡ is_amount x }
 {
-    number_level::in_range(number_level::amount_of_real(x))
+    number_level::amount_of_real(x).is_some()
 }
 
 pub fn is_amount_pattern(pattern: u32) -> bool
