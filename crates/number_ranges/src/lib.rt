@@ -3,7 +3,7 @@
 
 pub mod rows;
 
-ghost use Rattle.std.specs.Prelude.{◌≡◌, min};
+ghost use Rattle.std.specs.Prelude.{◌≡◌};
 ghost use Rattle.lighting_outputs.specs.Paper.Parameters.{longest_movement};
 ghost use Rattle.lighting_outputs.specs.Paper.Rows.{row_of, within, is_level, is_slot, is_priority, meets};
 ghost use Rattle.lighting_outputs.specs.declared.Property.TheVariants.{FadeTime};
@@ -78,22 +78,9 @@ pub fn is_priority(n: u32) -> bool
 
 // ---- places in a table
 
-// A number of one byte, and of four, as the place of a record in its table.
+// A number of one byte as the place of a record in its table.
 pub fn index(n: u8) -> usize
     ensures { result ≡ n }
 {
     usize::from(n)
-}
-
-pub fn wide_index(v: u32) -> usize
-    ensures { result ≡ v }
-{
-    v as usize
-}
-
-// The smaller, so that a part of a table is within it.
-pub fn least(a: usize, b: usize) -> usize
-    ensures { result ≡ min a b }
-{
-    a.min(b)
 }
