@@ -47,6 +47,7 @@ fn go_to(c: Settings, s: Slots, a: Activity, x: f32) -> Effect
     jump(c, s, a, command_moving::target_of(c, x))
 }
 
+// Stays: two steps, since one with a closure would be no plainer: each is one call, and has its definition.
 #[tactic(auto, unfolding(lighting_outputs::specs::Paper::Commands::stepped_up))]
 fn step_up(c: Settings, f: u32, s: Slots, a: Activity, x: f32) -> Effect
     ensures { result ≡ stepped_up c f s a x }

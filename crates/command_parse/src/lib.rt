@@ -25,6 +25,8 @@ fn level_field_refusal(x: Option<f32>) -> Option<Refusal>
 }
 
 // A rate or a step.
+// Stays: beside the one of a level. One function with a closure for the conversion would be no plainer: its
+// clause would have to say by `F.post` what the two definitions say by name.
 #[tactic(auto, unfolding(lighting_outputs::specs::Paper::Requests::amount_field_refusal))]
 fn amount_field_refusal(x: Option<f32>) -> Option<Refusal>
     ensures { result ≡ amount_field_refusal x }

@@ -49,6 +49,7 @@ pub fn is_fresh<R: Record>(record: R) -> bool {
 
 // A row as far as it is read: its letter, once it has come; the numbers that are whole, and zeros after them;
 // and the number that may still go on.
+// Stays: an array and a count, since the panel's programs have no heap.
 #[derive(Clone, Copy)]
 pub struct Row {
     pub letter: Option<u8>,

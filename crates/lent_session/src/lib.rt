@@ -76,6 +76,7 @@ impl Tables {
     }
 
     // The panel is started with the set and the marks.
+    // Stays: like `send` only in what it lends, the tables and their counts.
     fn start(&mut self, parameters: Parameters, tenants: u32) -> Answer {
         lent_parts::start(
             &mut self.outputs,

@@ -65,6 +65,7 @@ pub struct Relay {
 }
 
 // How a movement goes: a fade by an even share of its way, a ramp at a rate in units a second.
+// Stays: no Option of a rate, which would be no plainer: `None` would have to mean a fade.
 #[derive(Clone, Copy)]
 pub enum Pace {
     Fade,
@@ -173,6 +174,9 @@ pub struct Output {
 
 // ---- answers and stations
 
+// What a frame is answered.
+// Stays: a refusal by its number, as the paper names this enum (docs/PROMISES.md, 'Language forms by place').
+// A lent station record holds any number (`panel::frame`, of every lent table).
 #[derive(Clone, Copy)]
 pub enum Answer {
     Done,

@@ -35,6 +35,7 @@ fn unchanged(o: Output, a: Answer) -> Outcome
 
 // A write of a property, unless it would leave Min over Max (m), or the relay's inactive value not below its
 // active one.
+// Stays: two facts, as the definition `changed_unless` takes them, and no switch between steps.
 #[tactic(auto, using(lighting_levels::proofs::Choosing::ifs), unfolding(lighting_outputs::specs::Paper::Acting::changed_unless))]
 fn change_unless(m: bool, unordered: bool, o: Output, n: Property, v: u32) -> Outcome
     ensures { result ≡ changed_unless m unordered o n v }

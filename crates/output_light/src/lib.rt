@@ -9,6 +9,9 @@ ghost use Rattle.lighting_outputs.specs.Engine.Light.{last_short, moment_after, 
 
 use lighting_outputs::{Activity, Movement, Output, Pace};
 
+// Stays: `s` units in `w` milliseconds, as the definitions of specs/Engine/Light.antt take them. A struct of
+// the two would be no plainer: they are a rate in some calls, and a way and a length in others.
+
 // ---- when so many units of a movement's way are gone. In milliseconds of the movement, which have 32 bits
 // once they are known to be at most its length (§4 of the change requests)
 

@@ -61,6 +61,7 @@ fn fire_due(d: u64, o: Output) -> Output
 
 // A stretch up to d, and what falls due at its end, or nothing after the last one. One function makes every
 // stretch: a second one would be passed the record by value, which costs more than the stretch.
+// Stays: `fires` says whether it is the last one. Two functions were tried, and were slower (docs/BENCHMARK.md).
 #[tactic(auto, using(lighting_levels::proofs::Choosing::ifs), unfolding(lighting_outputs::specs::Engine::Advance::event_step, lighting_outputs::specs::Engine::Advance::event_steps))]
 fn stretch(now: u64, d: u64, fires: bool, o: Output) -> Output
     ensures { result ≡ (when fires then event_step now d o else event_steps 0 now d o) }
@@ -76,6 +77,8 @@ fn one_event_step(now: u64, to: u64, o: Output) -> Output
     stretch(d, to, false, stretch(now, d, true, o))
 }
 
+// Stays: a step more than `one_event_step`, and `three_event_steps` one more. One function by a count would
+// call itself, which no function of the panel may (tools/loops.py).
 fn two_event_steps(now: u64, to: u64, o: Output) -> Output
     ensures { result ≡ event_steps 2 now to o }
 {

@@ -140,6 +140,7 @@ pub fn write(t: PanelTime, o: Output, i: u8, v: u32) -> Output
 // ---- kind 03
 
 // A movement goes on also 'if kind 03 empties an empty slot'; 'kind 03 leaves [a warning] running'.
+// Stays: `live` is a fact of the slot, as the definition takes it, and no switch between steps.
 #[tactic(auto, using(lighting_levels::proofs::Choosing::ifs), unfolding(lighting_outputs::specs::Paper::Writing::activity_relinquished))]
 fn relinquish_activity(live: bool, i: u8, a: Activity) -> Activity
     ensures { result ≡ activity_relinquished live i a }

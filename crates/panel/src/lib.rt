@@ -14,6 +14,9 @@ use lighting_outputs::{Answer, Output, Parameters, Refusal};
 use lighting_panel::PanelRecord;
 use panel_time::PanelTime;
 
+// Stays: the three that are lent go as three parameters through all four functions, since `start` and `frame`
+// are what docs/SUPPLY.md and README.md name for a caller. A struct of them has its place in `replay_line`.
+
 // A first arrival: the panel goes to its time and acts, and the station keeps number, frame and answer.
 #[tactic(auto, unfolding(lighting_panel::specs::Engine::Executing::execute))]
 fn arrive(

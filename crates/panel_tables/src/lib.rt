@@ -28,6 +28,9 @@ pub fn fresh_stations(stations: &mut [Station])
     stations.fill(output_fresh::fresh_station());
 }
 
+// Stays: `from` and `to` as two numbers. A range would be no plainer: it is half open by its name, and what
+// falls due at `to` is done here.
+
 // Brings one output to a moment, from due moment to due moment. A function of its own, so that the copies of
 // a record that the compiler makes here stay out of the way of most outputs (docs/DESIGN.md, 'With and
 // without a movement apart').

@@ -24,6 +24,7 @@ use text_reading::Reader;
 
 // The lines that end in these bytes are taken, up to a bad one; the answer: whether all of them were good. A
 // page that is full is written out on the way. An error comes after the end of a line, which is taken.
+// Stays: a turn takes a line, whose end `feed_line` finds, so that no `for` over the bytes is plainer.
 #[tactic(auto, using(replay_line::proofs::Through::text_over))]
 fn take_chunk<W: Write>(
     tables: &mut Tables,

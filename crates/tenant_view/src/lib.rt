@@ -24,6 +24,7 @@ fn whole_percent(level: u32) -> u32
 }
 
 // A level that a tenant reads in whole percent, and a service station as it is.
+// Stays: `tenant` is the mark of a station, as the definition takes it, and no switch between steps.
 #[tactic(auto, using(lighting_levels::proofs::Choosing::ifs), unfolding(lighting_outputs::specs::Paper::Tenants::shown_level))]
 pub fn shown_level(tenant: bool, level: u32) -> u32
     ensures { result ≡ shown_level tenant level }

@@ -111,6 +111,7 @@ impl<'a> Page<'a> {
     }
 
     // The digits are found from the last one to the first.
+    // Stays: the turns end by the number, and the place is where the digits begin: no `for` is plainer.
     #[tactic(auto, using(crate::proofs::Decimals::digit_start))]
     pub fn put_decimal(&mut self, n: u64)
         ensures { Wrote self.old (decimal n) self.new }

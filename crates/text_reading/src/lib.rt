@@ -52,6 +52,7 @@ pub const BYTES_KEPT: usize = lighting_frames::LONGEST_FRAME + 1;
 
 // The reader between two bytes: whether the list has named its outputs, the line's number, what it holds so
 // far, and of its bytes the first ones.
+// Stays: an array and a count (the panel's programs have no heap), and `named`, beside which no value stands.
 #[derive(Clone, Copy)]
 pub struct Reader {
     pub named: bool,
@@ -175,6 +176,7 @@ fn feed_bytes(w: Reader, s: &[u8], from: usize) -> Fed
     }
 }
 
+// Stays: a turn takes as much as `feed_bytes` took and one character more, so that no `for` is plainer.
 pub fn feed_line(w: Reader, s: &[u8], from: usize) -> Fed
     requires { from ≤ length s.now }
     ensures reader_value { result.reader ≡ fed_line w (drop from s.now) }

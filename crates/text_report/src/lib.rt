@@ -92,6 +92,7 @@ fn put_lasting(page: &mut Page, n: u64)
 
 // ---- words
 
+// Stays: one of two words by a fact (lit or dark, on or off), and no switch between steps.
 #[tactic(auto, using(text_printing::proofs::Pages::texts, lighting_levels::proofs::Choosing::ifs), unfolding(crate::specs::Report::either))]
 fn put_either(page: &mut Page, this: &[u8], that: &[u8], b: bool)
     ensures { Wrote page.old (either this.now that.now b) page.new }
