@@ -1,8 +1,8 @@
 // A target is put in slot p, with the movement that leads to it. By value.
 // `t` is the moment, `c` the settings, `f` the level from which a command starts, `s` the slots and `a` the
 // activity that it finds; `g` is the target, in units.
-// Stays: slots and activity as two parameters. They are two fields of the output's record, which a command finds
-// apart (with any warning ended); a struct of them, as the result has, would be no plainer.
+// Stays: slots and activity as two parameters. They are two fields of the output's record, which a command
+// finds apart (with any warning ended); a struct of them, as the result has, would be no plainer.
 #![tactic(auto)]
 
 ghost use Rattle.std.specs.Prelude.{◌≡◌, ◌≤◌};

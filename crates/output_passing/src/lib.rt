@@ -61,7 +61,8 @@ fn fire_due(d: u64, o: Output) -> Output
 
 // A stretch up to d, and what falls due at its end, or nothing after the last one. One function makes every
 // stretch: a second one would be passed the record by value, which costs more than the stretch.
-// Stays: `fires` says whether it is the last one. Two functions were tried, and were slower (docs/BENCHMARK.md).
+// Stays: `fires` says whether it is the last one. Two functions were tried, and were slower
+// (docs/BENCHMARK.md).
 #[tactic(auto, using(lighting_levels::proofs::Choosing::ifs), unfolding(lighting_outputs::specs::Engine::Advance::event_step, lighting_outputs::specs::Engine::Advance::event_steps))]
 fn stretch(now: u64, d: u64, fires: bool, o: Output) -> Output
     ensures { result ≡ (when fires then event_step now d o else event_steps 0 now d o) }

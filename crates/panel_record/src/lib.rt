@@ -51,24 +51,6 @@ pub fn fresh_record(parameters: Parameters, tenants: u32) -> PanelRecord
     }
 }
 
-pub fn time_of(kept: PanelRecord) -> u64
-    ensures { result ≡ kept.time }
-{
-    kept.time
-}
-
-pub fn parameters_of(kept: PanelRecord) -> Parameters
-    ensures { result ≡ kept.parameters }
-{
-    kept.parameters
-}
-
-pub fn tenants_of(kept: PanelRecord) -> u32
-    ensures { result ≡ kept.tenants }
-{
-    kept.tenants
-}
-
 pub fn with_time(kept: PanelRecord, t: u64) -> PanelRecord
     ensures { result ≡ with_time kept t }
 {
