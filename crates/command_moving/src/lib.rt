@@ -68,6 +68,7 @@ pub fn target_of(c: Settings, x: f32) -> u32
 }
 
 // ---- fades and ramps
+// Stays: `t`, `c`, `f`, `s` and `a` one by one, as the definitions `faded_to` and `ramped_to` take them.
 
 #[tactic(auto, unfolding(lighting_outputs::specs::Paper::Commands::faded_over))]
 fn fade_over(t: PanelTime, c: Settings, f: u32, s: Slots, a: Activity, g: u32, l: u32) -> Effect

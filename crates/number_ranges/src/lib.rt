@@ -79,6 +79,7 @@ pub fn is_priority(n: u32) -> bool
 // ---- places in a table
 
 // A number of one byte as the place of a record in its table.
+// Stays: the must-fail edit `one_output_for_all` is of it (docs/PROMISES.md).
 pub fn index(n: u8) -> usize
     ensures { result ≡ n }
 {

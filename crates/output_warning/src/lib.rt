@@ -69,6 +69,7 @@ pub fn does_warn(c: Settings, s: Slots, x: u8) -> bool
 // ---- how it starts
 
 // What slot 6 holds first: with no Blink_Time it holds the old level `y` at once.
+// Stays: two functions, this and `first_phase`: one over both types would be no more than an `if`.
 #[tactic(auto, using(lighting_levels::proofs::Choosing::ifs), unfolding(lighting_outputs::specs::Paper::Writing::first_level))]
 pub fn first_level(c: Settings, y: u32) -> u32
     ensures { result ≡ first_level c y }
