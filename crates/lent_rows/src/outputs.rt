@@ -1,6 +1,8 @@
 // An output's record as the numbers of a row, and back. After its place: settings 1 to 10, the live slots
 // 11, levels 12 to 27, what is under way 28 to 35, the duration 36 to 38, burning time 39, the last command
 // 40 to 44, the relay 45 to 48.
+// Stays: what may not change. Numbers for kinds are the rows' text, which the program `lent_tables` reads and
+// writes.
 ghost use Rattle.std.proofs.Common.{rules};
 
 use super::numbers::Narrow;

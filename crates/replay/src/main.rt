@@ -11,19 +11,12 @@ use std::rt::Env;
 // Whether there is no argument here. An empty one counts as none, and one that is longer than what it was
 // read into is there.
 fn is_missing(got: Result<usize, FillError>) -> bool {
-    match got {
-        Ok(n) => n == 0,
-        Err(FillError::NotPresent) => true,
-        Err(FillError::TooLong) => false,
-    }
+    matches!(got, Ok(0) | Err(FillError::NotPresent))
 }
 
 // Whether the argument is the word `report`.
 fn is_report(word: &[u8; 16], got: Result<usize, FillError>) -> bool {
-    match got {
-        Ok(n) => n == 6 && word.starts_with(b"report"),
-        Err(_) => false,
-    }
+    matches!(got, Ok(6)) && word.starts_with(b"report")
 }
 
 fn put_usage<W: Write>(out: &mut W) -> io::Result<()> {

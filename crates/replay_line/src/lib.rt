@@ -60,6 +60,8 @@ fn send(tables: &mut Tables, reader: &Reader) -> Answer
 
 // The line that the reader has come to the end of. The reader is then at the next line; the answer: whether
 // the line was a good one.
+// Stays: what may not change. The yes or no is `good` of the definition `taken`, and a bad line too leaves a
+// reader.
 #[tactic(auto, using(text_printing::proofs::Pages::texts), unfolding(crate::specs::Taking::taken, crate::specs::Taking::taken_by))]
 pub fn take_line(tables: &mut Tables, page: &mut Page, reader: &mut Reader) -> bool
     ensures reader_value { reader.new ≡ (taken (panel_in tables.old) reader.old).reader }
