@@ -6,7 +6,7 @@
 ghost use Rattle.std.specs.Prelude.{◌≡◌};
 ghost use Rattle.text_reading.specs.Reading.{content};
 ghost use Rattle.text_printing.specs.Page.{Wrote};
-ghost use Rattle.replay_line.specs.Tables.{panel_in};
+ghost use Rattle.replay_line.specs.Tables.{panel_in, with_panel};
 ghost use Rattle.replay_line.specs.Taking.{sent_on, started_with, taken};
 
 use lighting_frames::Station;
@@ -26,7 +26,7 @@ pub struct Tables<'a> {
 
 // The panel of the set that a list names is started.
 fn start(tables: &mut Tables, named: Named)
-    ensures { panel_in tables.new ≡ started_with named (panel_in tables.old) }
+    ensures { tables.new ≡ with_panel tables.old (started_with named (panel_in tables.old)) }
 {
     let set = named.parameters;
     lent_parts::start(
@@ -44,7 +44,7 @@ fn start(tables: &mut Tables, named: Named)
 #[tactic(auto, unfolding(text_reading::specs::Reading::content))]
 fn send(tables: &mut Tables, reader: &Reader) -> Answer
     ensures value { result ≡ (sent_on (content reader.now) (panel_in tables.old)).answer }
-    ensures kept_after { panel_in tables.new ≡ (sent_on (content reader.now) (panel_in tables.old)).panel }
+    ensures kept_after { tables.new ≡ with_panel tables.old (sent_on (content reader.now) (panel_in tables.old)).panel }
 {
     let set = tables.kept.parameters;
     lent_parts::send(
@@ -67,7 +67,7 @@ pub fn take_line(tables: &mut Tables, page: &mut Page, reader: &mut Reader) -> b
     ensures reader_value { reader.new ≡ (taken (panel_in tables.old) reader.old).reader }
     ensures good_value { result ≡ (taken (panel_in tables.old) reader.old).good }
     ensures wrote { Wrote page.old (taken (panel_in tables.old) reader.old).text page.new }
-    ensures kept_after { panel_in tables.new ≡ (taken (panel_in tables.old) reader.old).panel }
+    ensures kept_after { tables.new ≡ with_panel tables.old (taken (panel_in tables.old) reader.old).panel }
 {
     match text_reading::line_of(reader.held) {
         Line::Nothing => {

@@ -17,6 +17,8 @@ use Rattle.text_reading.specs.declared.Line.{Line}
 use Rattle.text_reading.specs.declared.Line.TheVariants.{Nothing, Started, Frame, Wrong}
 use Rattle.text_reading.specs.declared.Reader.{Reader}
 use Rattle.text_reading.specs.Reading.{feed, fed_line, line_length, line_of, next_line, with_named, fresh_reader}
+use Rattle.replay_line.specs.declared.Tables.{Tables}
+use Rattle.replay_line.specs.Tables.{panel_in, with_panel}
 use Rattle.replay_line.specs.Taking.{Through, taken, taken_by, through, Went, closed, finished, Replayed}
 use Rattle.replay_line.proofs.Parts.{taken_blank}
 use Rattle.replay_session.specs.Reached.{Reached, ReachedIn}
@@ -143,3 +145,7 @@ replayed_part {p} {q} f =
   where
     none : finished p [] ≡ p
     none = unfold finished through closed when◌then◌else◌ fresh_reader in (taken_blank p fresh_reader refl)
+
+-- THE TABLES THAT WERE LENT are lent on, from line to line and from part to part
+pub lent_on : (t u : Tables) {v : Tables} (q : Panel) → u ≡ with_panel t (panel_in u) → v ≡ with_panel u q → v ≡ with_panel t (panel_in v)
+lent_on t u q a b = rw b (ap (λ (z : Tables). with_panel z q) a)

@@ -10,7 +10,7 @@
 
 ghost use Rattle.std.specs.Prelude.{◌≡◌, IfOk, OnErr, OnOk};
 ghost use Rattle.text_reading.specs.Reading.{fresh_reader};
-ghost use Rattle.replay_line.specs.Tables.{panel_in};
+ghost use Rattle.replay_line.specs.Tables.{panel_in, with_panel};
 ghost use Rattle.replay_line.specs.Taking.{taken, through, Went, Replayed};
 ghost use Rattle.replay_session.specs.Reached.{Reached, ReachedIn};
 
@@ -36,6 +36,7 @@ fn take_chunk<W: Write>(
     ensures reader_value { OnOk result (reader.new ≡ (through (panel_in tables.old) reader.old s.now).reader) }
     ensures good_value { IfOk result (λ good. good ≡ (through (panel_in tables.old) reader.old s.now).good) }
     ensures kept_after { OnOk result (panel_in tables.new ≡ (through (panel_in tables.old) reader.old s.now).panel) }
+    ensures same_tables { tables.new ≡ with_panel tables.old (panel_in tables.new) }
     ensures err { OnErr result (ReachedIn s.now (panel_in tables.old) reader.old (panel_in tables.new)) }
 {
     let mut i: usize = 0;
@@ -67,6 +68,7 @@ fn take_all<R: Read, W: Write>(
     page: &mut Page,
 ) -> io::Result<bool>
     ensures went { IfOk result (λ good. Went (panel_in tables.old) reader.old (panel_in tables.new) reader.new good) }
+    ensures same_tables { tables.new ≡ with_panel tables.old (panel_in tables.new) }
     ensures err { OnErr result (Reached (panel_in tables.old) reader.old (panel_in tables.new)) }
 {
     for _ in 0..u64::MAX {
@@ -110,7 +112,7 @@ fn end_list<W: Write>(
     page: &mut Page,
     report: bool,
 ) -> io::Result<()>
-    ensures { panel_in tables.new ≡ (taken (panel_in tables.old) reader.old).panel }
+    ensures { tables.new ≡ with_panel tables.old (taken (panel_in tables.old) reader.old).panel }
 {
     let line = reader.line;
     if !replay_line::take_line(tables, page, reader) {
@@ -134,7 +136,8 @@ fn replay<R: Read, W: Write>(
     page: &mut Page,
     report: bool,
 ) -> io::Result<()>
-    ensures { Replayed (panel_in tables.old) (panel_in tables.new) }
+    ensures replayed { Replayed (panel_in tables.old) (panel_in tables.new) }
+    ensures same_tables { tables.new ≡ with_panel tables.old (panel_in tables.new) }
 {
     let mut reader = text_reading::fresh_reader();
     if take_all(tables, &mut reader, input, chunk, out, page)? {

@@ -3,4 +3,4 @@ use Rattle.replay_session.proofs.take_all.Goals as goal
 
 pub returns-in_err-good-clause-err : goal.returns-in_err-good-clause-err
 returns-in_err-good-clause-err g c =
-    on_err c.from_residual-in_err-good.result (reached_then c.loop.invariant (reached_part c.in_err-good.ensures.err))
+    on_err c.from_residual-in_err-good.result (reached_then c.loop.invariant.went (reached_part c.in_err-good.ensures.err))
