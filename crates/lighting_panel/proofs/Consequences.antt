@@ -1,5 +1,7 @@
 -- refusal 1
 pub mod RefusalOne
+-- the number of every refusal
+pub mod Refusals
 -- the other outputs
 pub mod Others
 -- 32 bits hold a movement (§4)

@@ -52,8 +52,8 @@ fn settings_sound(parameters: Parameters, c: Settings) -> bool
 
 // A live slot holds a level. The loop takes the lowest live slot away until none is left, over a copy of the
 // levels alone.
-// Stays: a loop over the mask. The new form is no plainer: `all` over the sixteen slots would ask each of
-// them whether it is live, where the loop goes over the live ones, and std has no iterator over set bits.
+// Stays: a loop over the mask, from live slot to live slot. A test of each of the sixteen slots was tried,
+// and was slower (docs/BENCHMARK.md).
 #[tactic(auto, using(crate::proofs::LiveSlots::low_broken, crate::proofs::LiveSlots::low_within, crate::proofs::LiveSlots::none_live))]
 fn live_sound(s: Slots) -> bool
     ensures { result ≡ slots_sound s }

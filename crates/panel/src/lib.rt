@@ -35,10 +35,14 @@ fn arrive(
         outputs,
         tenant_view::is_tenant(kept.tenants, call.station),
         PanelTime::new(call.time),
-        usize::from(call.output),
+        number_ranges::index(call.output),
         call.request,
     );
-    stations[usize::from(call.station)] = station_frame::station_record(answer, call.number, bytes);
+    stations[number_ranges::index(call.station)] = station_frame::station_record(
+        answer,
+        call.number,
+        bytes,
+    );
     kept.time = call.time;
     answer
 }

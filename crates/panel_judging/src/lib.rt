@@ -57,6 +57,6 @@ pub fn decide(
     ensures { result ≡ decide (panel_of outputs.now stations.now kept) bytes.now }
 {
     let f = frame_parse::parse(kept.parameters, outputs.len(), bytes);
-    let at = usize::from(station_judging::station_of(f));
+    let at = number_ranges::index(station_judging::station_of(f));
     station_judging::judge_by_station(kept.time, stations[at], bytes, f)
 }
