@@ -17,7 +17,7 @@ returns c =
     let within : station_of f < length c.args.stations.now = omega (arith, c.requires.stations_len, named) in
     simp (
       c.judge_by_station.ensures,
-      c.from-at.ensures,
+      c.index-at.ensures,
       c.station_of.ensures,
       c.parse-f.ensures,
     )
