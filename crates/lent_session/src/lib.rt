@@ -233,5 +233,5 @@ pub fn run<R: Read, W: Write>(input: &mut R, out: &mut W) -> io::Result<()> {
     let mut page = Page::new(&mut bytes);
     let mut chunk = [0u8; 65536];
     take_all(&mut tables, input, &mut chunk, out, &mut page)?;
-    text_found::flush(out, &page)
+    text_found::flush(out, page.text())
 }

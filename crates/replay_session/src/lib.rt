@@ -143,7 +143,7 @@ fn replay<R: Read, W: Write>(
     if take_all(tables, &mut reader, input, chunk, out, page)? {
         end_list(tables, &mut reader, out, page, report)?;
     }
-    text_found::flush(out, page)
+    text_found::flush(out, page.text())
 }
 
 // Over tables of its own, which the panel is lent: 64 outputs and 32 stations, of which the list names how

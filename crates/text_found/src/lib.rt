@@ -19,11 +19,11 @@ const ROOM: usize = 1024;
 
 // ---- pages
 
-// The page's text is written out.
-pub fn flush<W: Write>(out: &mut W, page: &Page) -> io::Result<()>
-    ensures { OnOk result (Appends (W.contents out.old) (W.contents out.new) (take page.now.mark page.now.bytes.now)) }
+// A text, such as a page's, is written out.
+pub fn flush<W: Write>(out: &mut W, text: &[u8]) -> io::Result<()>
+    ensures { OnOk result (Appends (W.contents out.old) (W.contents out.new) text.now) }
 {
-    out.write_all(page.text())
+    out.write_all(text)
 }
 
 #[tactic(auto, using(text_printing::proofs::Pages::texts, lighting_levels::proofs::Choosing::ifs), unfolding(crate::specs::Found::roomy))]
@@ -40,7 +40,7 @@ pub fn with_room<W: Write>(out: &mut W, page: &mut Page) -> io::Result<()>
     ensures err { OnErr result ((page.new ≡ page.old) × (roomy (length page.old.bytes.now) page.old.mark ≡ false)) }
 {
     if !has_room(page) {
-        flush(out, page)?;
+        flush(out, page.text())?;
         page.clear();
     }
     Ok(())
