@@ -11,6 +11,8 @@ use lighting_panel::PanelRecord;
 
 // The first n outputs and the first k stations are lent to the panel, which is started with the set and the
 // marks.
+// Stays: the counts beside the tables, since the clauses give all of the tables, the rest of them too, and
+// README names this for a caller.
 #[tactic(auto, using(crate::proofs::Parts::parts_joined, lighting_levels::proofs::Parts::part_taken), unfolding(crate::specs::Lending::begun))]
 pub fn start(
     outputs: &mut [Output],

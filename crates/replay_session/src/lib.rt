@@ -148,6 +148,7 @@ fn replay<R: Read, W: Write>(
 
 // Over tables of its own, which the panel is lent: 64 outputs and 32 stations, of which the list names how
 // many there are.
+// Stays: `report` is yes or no, as the definitions of what is found take it (`with_found`).
 pub fn run<R: Read, W: Write>(input: &mut R, out: &mut W, report: bool) -> io::Result<()> {
     let parameters = panel_record::four_hours(64);
     let mut outputs = [output_fresh::fresh_output(parameters); 64];
