@@ -10,7 +10,7 @@ use text_printing::{Page, last_digit};
 
 // ---- numbers
 
-// Stays: two digits and three. One function of N digits would need powers of ten, or a loop from the last one.
+// Stays: two digits and three. One function of N digits would need powers of ten, or a loop from the last.
 #[tactic(auto, using(text_printing::proofs::Pages::texts), unfolding(crate::specs::Report::two_digits))]
 fn put_two(page: &mut Page, n: u64)
     ensures { Wrote page.old (two_digits n) page.new }
