@@ -82,7 +82,7 @@ rows = [
     ('the paper as definitions', '`specs/Paper` of `crates/lighting_*`', '%d in %d files' % (paper[1], paper[0])),
     ('of these the statement of demand 3', '`lighting_panel/specs/Paper/Demand.antt`', str(lines(read('crates/lighting_panel/specs/Paper/Demand.antt')))),
     ('the engine as definitions: for demand 3 nobody need believe them', '`specs/Engine` of `crates/lighting_*`', '%d in %d files' % (engine[1], engine[0])),
-    ('the types', '`src/lib.rt` of `crates/lighting_*`', str(sum(lines(read(p)) for p in glob.glob('crates/lighting_*/src/lib.rt')))),
+    ('the types', '`src/` of `crates/lighting_*`', str(sum(lines(read(p)) for p in glob.glob('crates/lighting_*/src/*.rt')))),
     ('the contract of `panel::start`', '`crates/panel/src/lib.rt`', str(contract('start'))),
     ('the contract of `panel::frame`', '`crates/panel/src/lib.rt`', str(contract('frame'))),
 ]
