@@ -1,6 +1,7 @@
 #!/usr/bin/env python3
-"""forms.py [--list] [POINT ..]: counts the places in src/ of the crates whose form an older Rattle left behind, by the points of docs/DESIGN-PASS.md,
-and with --list prints each place. It reads text alone: a place that it finds may have its reason (a comment that begins with 'Stays:')."""
+"""forms.py [--list] [POINT ..]: counts the places in src/ whose form an older Rattle left behind, by the points
+of docs/DESIGN-PASS.md, and with --list prints each. It reads text alone: a place that it finds may have its
+reason (a comment that begins with 'Stays:')."""
 import collections
 import glob
 import re
@@ -8,7 +9,20 @@ import sys
 
 FILES = {path: open(path).read() for path in sorted(glob.glob('crates/*/src/**/*.rt', recursive=True))}
 CODE = {path: re.sub(r'//[^\n]*', lambda m: ' ' * len(m.group()), text) for path, text in FILES.items()}
-FUNCTION = re.compile(r'^[ ]*(?:pub )?(?:extern "C" )?fn (\w+)(?:<[^>]*>)?\(([^{]*?)\)(?:\s*->\s*([^{;]*?))?((?:\s*(?:requires|ensures)[^\n]*)*)\s*\{\n', re.M | re.S)
+FUNCTION = re.compile(
+    r'^[ ]*(?:pub )?(?:extern "C" )?fn (\w+)(?:<[^>]*>)?\(([^{]*?)\)(?:\s*->\s*([^{;]*?))?'
+    r'((?:\s*(?:requires|ensures)[^\n]*)*)\s*\{\n', re.M | re.S)
+
+
+WORDS = 'if else match while for in let mut return true false as T N'.split()
+# a choice of the lesser or the greater, one less, a difference or a sum that stops at an end
+ORDERS = [
+    r'if (\w+(?:\.\w+)?) (?:<|<=) (\w+(?:\.\w+)?)(?: as \w+)? \{ [\w. -]+(?: as \w+)? \} else \{ [\w. -]+ \}',
+    r'if \w+ == 0 \{ 0 \} else \{ \w+ - 1 \}',
+    r'if \w+ (?:<|<=) (?:\w+ - \w+|\d+) \{ [^{}]*\} else \{ [^{}]*\}',
+    r'if \w+ < \w+ - \w+ \{ return [^{}]*; \} \w+',
+]
+EQUALITY = r'(?:if .*?\{ return false; \} )?(?:let mut i: usize = 0; )?while .*'
 
 
 def functions():
@@ -24,28 +38,34 @@ def place(path, at):
 
 
 def found(pattern, only=lambda path, m: True):
-    return ['%s %s' % (place(path, m.start()), m.group().strip().split('\n')[0][:80]) for path, code in CODE.items() for m in re.finditer(pattern, code, re.M) if only(path, m)]
+    return ['%s %s' % (place(path, m.start()), m.group().strip().split('\n')[0][:80])
+            for path, code in CODE.items() for m in re.finditer(pattern, code, re.M) if only(path, m)]
 
 
 def own_options():
-    """own enums of two variants of which one at most holds something else than the other, with a case that holds nothing or a number of a refusal"""
+    """own enums of two variants, of which one holds nothing, a fault or a refusal's number"""
     places = []
     for path, code in CODE.items():
         for m in re.finditer(r'^pub enum (\w+) \{(.*?)\n\}', code, re.M | re.S):
             variants = [v.strip() for v in re.split(r',\s*(?![^({]*[)}])', m.group(2)) if v.strip()]
-            if len(variants) == 2 and any(re.search(r'[({]', v) for v in variants) and (any(not re.search(r'[({]', v) for v in variants) or any(re.match(r'\w+\((u8|\w*Fault|\w*Refusal)\)$', v) for v in variants)):
+            holds = [bool(re.search(r'[({]', v)) for v in variants]
+            fault = any(re.match(r'\w+\((u8|\w*Fault|\w*Refusal)\)$', v) for v in variants)
+            if len(variants) == 2 and any(holds) and (not all(holds) or fault):
                 places.append('%s enum %s' % (place(path, m.start()), m.group(1)))
     return places
 
 
 def codes():
     """numbers of refusals, and functions that answer a number for none"""
-    return (found(r'\b(?:Refuse|Bad|TurnedDown|Unreadable|Refused|Err)\(\d+\)') + found(r'^\s*(?:Answer::)?Refused\(u8\)|^\s*(?:Refuse|Bad|TurnedDown|Unreadable)\(u8\)')
-            + ['%s fn %s' % (place(p, m.start()), m.group(1)) for p, m, b in functions() if (m.group(3) or '').strip() in ('u8', 'u32') and re.search(r'refusal|hex_value', m.group(1))])
+    answers = ['%s fn %s' % (place(p, m.start()), m.group(1)) for p, m, b in functions()
+               if (m.group(3) or '').strip() in ('u8', 'u32') and re.search(r'refusal|hex_value', m.group(1))]
+    return (found(r'\b(?:Refuse|Bad|TurnedDown|Unreadable|Refused|Err)\(\d+\)')
+            + found(r'^\s*(?:Answer::)?Refused\(u8\)|^\s*(?:Refuse|Bad|TurnedDown|Unreadable)\(u8\)')
+            + answers)
 
 
 def flags():
-    """a flag beside a value in a struct: what the value is worth depends on the flag, or a count says what a place is"""
+    """a flag beside a value in a struct: what the value is worth depends on the flag"""
     return found(r'^    (?:pub )?(?:more|good|open|named|letter|no_\w+): (?:bool|u8)')
 
 
@@ -54,7 +74,7 @@ def twins():
     groups = collections.defaultdict(list)
     for path, m, body in functions():
         flat = re.sub(r'\b(?:u8|u16|u32|u64|usize|f32|bool)\b', 'T', re.sub(r'\b\d[\d_xA-Fa-f.]*\b', 'N', body))
-        flat = re.sub(r'\b[A-Za-z_]\w*\b', lambda w: w.group() if w.group() in ('if', 'else', 'match', 'while', 'for', 'in', 'let', 'mut', 'return', 'true', 'false', 'as', 'T', 'N') else 'x', flat)
+        flat = re.sub(r'\b[A-Za-z_]\w*\b', lambda w: w.group() if w.group() in WORDS else 'x', flat)
         flat = re.sub(r'\s+', '', flat)
         if len(flat) > 24:
             groups[flat, len(m.group(2).split(','))].append('%s fn %s' % (place(path, m.start()), m.group(1)))
@@ -71,14 +91,13 @@ def by_hand():
     for path, m, body in functions():
         name = '%s fn %s' % (place(path, m.start()), m.group(1))
         flat = ' '.join(body.split())
-        if re.fullmatch(r'if (\w+(?:\.\w+)?) (?:<|<=) (\w+(?:\.\w+)?)(?: as \w+)? \{ [\w. -]+(?: as \w+)? \} else \{ [\w. -]+ \}', flat) or re.fullmatch(r'if \w+ == 0 \{ 0 \} else \{ \w+ - 1 \}', flat) \
-                or re.fullmatch(r'if \w+ (?:<|<=) (?:\w+ - \w+|\w+ - \w+|\d+) \{ [^{}]*\} else \{ [^{}]*\}', flat) or re.fullmatch(r'if \w+ < \w+ - \w+ \{ return [^{}]*; \} \w+', flat):
+        if any(re.fullmatch(order, flat) for order in ORDERS):
             places.append(name + ': order or sum')
         elif re.fullmatch(r'\w+ as \w+', flat):
             places.append(name + ': conversion')
         elif re.fullmatch(r'\w+\.\w+', flat):
             places.append(name + ': field')
-        if re.fullmatch(r'(?:if .*?\{ return false; \} )?(?:let mut i: usize = 0; )?while .*', flat) and '!=' in flat and 'true' in flat.split()[-1:]:
+        if re.fullmatch(EQUALITY, flat) and '!=' in flat and 'true' in flat.split()[-1:]:
             places.append(name + ': equality')
         copies = re.findall(r'\b(\w+): (\w+)\.(\w+)\b', body)
         same = collections.Counter(v for f, v, g in copies if f == g)
@@ -117,12 +136,14 @@ def together():
     for (crate, p), f in where.items():
         if len(f) > 2:
             sets[crate, frozenset(f)].append(p)
-    return ['%s: %s: %d functions' % (crate, ', '.join(ps), len(f)) for (crate, f), ps in sets.items() if len(ps) > 1]
+    return ['%s: %s: %d functions' % (crate, ', '.join(ps), len(f))
+            for (crate, f), ps in sets.items() if len(ps) > 1]
 
 
 def buffers():
     """a buffer with a mark or a length beside it"""
-    return (found(r'page: &mut \[u8\],\s*(?:at|mark): usize') + found(r'^    (?:pub )?(?:bytes|numbers): \[\w+; \w+\],\n\s*(?:pub )?(?:count|length|from|open)'))
+    return (found(r'page: &mut \[u8\],\s*(?:at|mark): usize')
+            + found(r'^    (?:pub )?(?:bytes|numbers): \[\w+; \w+\],\n\s*(?:pub )?(?:count|length|from|open)'))
 
 
 def switches():
