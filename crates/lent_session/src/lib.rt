@@ -135,11 +135,14 @@ fn put_left<W: Write>(tables: &Tables, out: &mut W, page: &mut Page) -> io::Resu
     let counts = [
         tables.lent_outputs as u64,
         tables.lent_stations as u64,
-        tables.kept.time,
+        panel_record::time_of(tables.kept),
     ];
     lent_rows::put_row(page, b't', &counts);
     text_found::with_room(out, page)?;
-    let set = parameters_numbers(tables.kept.parameters, tables.kept.tenants);
+    let set = parameters_numbers(
+        panel_record::parameters_of(tables.kept),
+        panel_record::tenants_of(tables.kept),
+    );
     lent_rows::put_row(page, b'p', &set);
     put_records(&tables.outputs, tables.lent_outputs, out, page)?;
     put_records(&tables.stations, tables.lent_stations, out, page)
@@ -168,7 +171,7 @@ fn take_row<W: Write>(
         Some(b'p') => tables.keep(
             parameters_of(numbers),
             tenants_of(numbers),
-            tables.kept.time,
+            panel_record::time_of(tables.kept),
         ),
         Some(b'b') => {
             let answer = tables.start(parameters_of(numbers), tenants_of(numbers));
