@@ -56,7 +56,8 @@ pub fn decide(
     requires stations_len { length stations.now ≡ kept.parameters.stations }
     ensures { result ≡ decide (panel_of outputs.now stations.now kept) bytes.now }
 {
-    let f = frame_parse::parse(panel_record::parameters_of(kept), outputs.len(), bytes);
+    let parameters = panel_record::parameters_of(kept);
+    let f = frame_parse::parse(parameters, outputs.len(), bytes);
     let at = number_ranges::index(station_judging::station_of(f));
     station_judging::judge_by_station(panel_record::time_of(kept), stations[at], bytes, f)
 }
