@@ -281,6 +281,7 @@ pub type Asked = Result<OutputRequest, Refusal>;
 
 // What a frame asks: something of its own output, and of no other; or nothing, by the refusal that its fields
 // meet. A request to the whole table is a case of its own here.
+// Stays: no Result, which can gain no such case.
 #[derive(Clone, Copy)]
 pub enum Request {
     Refuse(Refusal),
