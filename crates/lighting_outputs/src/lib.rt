@@ -275,8 +275,8 @@ pub enum OutputRequest {
     Commands(Command),
 }
 
-// What a frame's fields come to: what they ask of its output, or the refusal that they meet, 9 to 12, 14 or 15
-// (a read of an unknown property meets its 9 when it is answered).
+// What a frame's fields come to: what they ask of its output, or the refusal that they meet, 9 to 12, 14 or
+// 15 (a read of an unknown property meets its 9 when it is answered).
 pub type Asked = Result<OutputRequest, Refusal>;
 
 // What a frame asks: something of its own output, and of no other; or nothing, by the refusal that its fields
