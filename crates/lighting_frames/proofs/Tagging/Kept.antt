@@ -1,6 +1,6 @@
 -- EVERY COMMAND THAT THE PANEL KEEPS (§1): reading what the writer makes of it gives it back, for every
 -- command that a string of bytes asks for, in whatever form it came.
-use Rattle.std.specs.Prelude.{Option, Some, None, Float, Ok, Err}
+use Rattle.std.specs.Prelude.{Option, Some, None, Float, Ok}
 use Rattle.lighting_levels.specs.Paper.Choice.{when◌then◌else◌}
 use mathlib.Core.Path.{◌≡◌, refl, ap}
 use mathlib.Core.Bool.{true}
