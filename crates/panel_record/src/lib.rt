@@ -51,7 +51,8 @@ pub fn fresh_record(parameters: Parameters, tenants: u32) -> PanelRecord
     }
 }
 
-// What the record has is read here and nowhere else: a later change of it moves these.
+// Stays: what may not change. docs/DESIGN.md says that the panel's record is read here, by value, and nowhere
+// else, so that a later change of it moves these.
 pub fn time_of(kept: PanelRecord) -> u64
     ensures { result ≡ kept.time }
 {
