@@ -1,8 +1,12 @@
 #!/usr/bin/env python3
-"""loops.py: no loop over milliseconds, and no recursion, in the code of the panel. A contract is an equation and says nothing of time, so this is looked
-for in the source: every loop of crates/*/src must stand in tools/loops.txt, a line a loop, with its head as it stands in the source and what it goes
-over; a listed function may gain no other, and no head may change unseen. A chain of an iterator is a loop, and so is a method of a slice or an array
-that goes over all of it; of an Option's `map` and its like the list says so. No function may call itself, directly or by way of others. Exit status 1 where that fails."""
+"""loops.py: no loop over milliseconds, and no recursion, in the code of the panel. A contract is an equation
+and says nothing of time, so this is looked for in the source. Every loop of crates/*/src must stand in
+tools/loops.txt, a line a loop, with its head as it stands in the source and what it goes over; a listed
+function may gain no other, and no head may change unseen. A chain of an iterator is a loop, and so is a
+method of a slice or an array that goes over all of it; of an Option's `map` and its like the list says so. A
+function of an impl or a trait goes by the name of its type or trait too. No function may call itself,
+directly or by way of others; a call `x.f(..)` is taken for one of every method `f` that the crates declare.
+Exit status 1 where that fails."""
 import glob
 import re
 import sys
@@ -14,10 +18,44 @@ for line in open('tools/loops.txt'):
         name, head, _ = [part.strip() for part in line.split('|')]
         known.setdefault(name, []).append(head)
 
-# loops by a keyword, and the methods that go over what they are called on, with that
+# loops by a keyword, and the methods that go over what they are called on
 LOOPS = re.compile(r'\b((?:while|loop)\b[^;]*?|for\b[^;{]*?\bin\b[^;]*?)\{')
-METHODS = re.compile(r'((?:\w+(?:::\w+)*(?:\[[^\]]*\])?(?:\([^()]*\))?|\([^()]*\))(?:\s*\.\w+(?:\([^()]*\))?)*?\s*\.(?:all|any|fold|try_fold|map|and_then|filter|for_each|sum|product|count|position|find|fill|copy_from_slice|copy_within|rotate_left|reverse|starts_with|ends_with|contains|zip|collect|min_by_key|max_by_key|rev|sort_unstable))\(')
-bodies, loops, brought = {}, {}, {}
+METHODS = re.compile(
+    r'\.(?:(?:all|any|fold|try_fold|reduce|map|flat_map|filter_map|map_while|scan|and_then|filter|for_each'
+    r'|try_for_each|sum|product|count|last|nth|position|rposition|find|find_map|partition|skip_while'
+    r'|take_while|unzip|fill|copy_from_slice|clone_from_slice|copy_within|rotate_left|rotate_right|reverse'
+    r'|starts_with|ends_with|contains|zip|collect|min_by|max_by|min_by_key|max_by_key|rev|eq|ne|lt|le|gt|ge'
+    r'|cmp|sort|sort_by|sort_unstable|binary_search)(?:::<[^()]*>)?\(|(?:min|max)\(\))')
+# an impl or a trait with its type's or its own name
+BLOCK = re.compile(
+    r'^(?:pub )?(?:impl(?:<[^{]*?>)? (?:[^{]*? for )?(\w+)|trait (\w+))[^{;]*\{\n(.*?)^\}', re.M | re.S)
+OPENS = {')': '(', ']': '['}
+
+
+def chain_from(text, at):
+    """Where the chain begins whose method's dot stands at `at`: back over names, calls and indices."""
+    i = at
+    while True:
+        while i > 0 and text[i - 1].isspace():
+            i -= 1
+        before = i
+        while i > 0 and text[i - 1] in OPENS:
+            deep, closed = 1, text[i - 1]
+            i -= 1
+            while i > 0 and deep:
+                i -= 1
+                deep += (text[i] == closed) - (text[i] == OPENS[closed])
+        while i > 0 and (text[i - 1].isalnum() or text[i - 1] in '_?:>' or text[i - 1] == '<' and '>' in text[i:before]):
+            i -= 1
+        j = i
+        while j > 0 and text[j - 1].isspace():
+            j -= 1
+        if i == before or j == 0 or text[j - 1] != '.' or text[j - 2:j] == '..':
+            return i
+        i = j - 1
+
+
+bodies, loops, brought, kinds, methods = {}, {}, {}, {}, {}
 for path in sorted(glob.glob('crates/*/src/*.rt')):
     crate = path.split('/')[1]
     text = re.sub(r'//.*', '', open(path).read())
@@ -26,16 +64,26 @@ for path in sorted(glob.glob('crates/*/src/*.rt')):
     for source, rest in re.findall(r'^use (\w+)::([^;]*);', text, re.M):
         for name in re.findall(r'(\w+)(?=\s*[,}]|$)', rest):
             names[name] = source
+    blocks = [(m.start(3), m.end(3), m.group(1) or m.group(2)) for m in BLOCK.finditer(text)]
     starts = [(m.start(), m.group(1)) for m in re.finditer(r'\bfn (\w+)\s*(?:<[^()]*>)?\s*\(', text)]
     for (at, name), (end, _) in zip(starts, starts[1:] + [(len(text), '')]):
+        kind = next((k for a, b, k in blocks if a <= at < b), None)
+        key = '%s::%s::%s' % (crate, kind, name) if kind else '%s::%s' % (crate, name)
         body = text[text.index('{\n', at):end] if '{\n' in text[at:end] else ''
-        bodies['%s::%s' % (crate, name)] = body
-        brought['%s::%s' % (crate, name)] = names
+        bodies[key] = bodies.get(key, '') + body
+        brought.setdefault(key, {}).update(names)
+        kinds[key] = kind
+        if kind:
+            methods.setdefault(name, set()).add(key)
         found = [(m.start(), m.group(1)) for m in LOOPS.finditer(body)]
-        found += [(m.start(), m.group(1)) for m in METHODS.finditer(body) if not any(at_ <= m.start() < at_ + len(h) for at_, h in found)]
+        chains = {}
+        for m in METHODS.finditer(body):
+            if not any(a <= m.start() < a + len(h) for a, h in found):
+                chains[chain_from(body, m.start())] = m.end() - 1
+        found += [(a, body[a:b].rstrip('(')) for a, b in chains.items()]
         heads = [' '.join(head.split()).replace(' .', '.') for _, head in sorted(found)]
         if heads:
-            loops['%s::%s' % (crate, name)] = heads
+            loops[key] = loops.get(key, []) + heads
 
 faults = []
 for name in sorted(set(loops) | set(known)):
@@ -43,12 +91,21 @@ for name in sorted(set(loops) | set(known)):
     if have != listed:
         faults.append('%s has the loops %s, and tools/loops.txt lists %s' % (name, have or 'none', listed or 'none'))
 
-# who calls whom: a call is `f(` or `module::f(` within a crate, or `crate::..::f(`
+# who calls whom: a call is `f(` or `module::f(` within a crate, `crate::..::f(`, `Type::f(` or `x.f(`
 crates = {name.split('::')[0] for name in bodies}
+types = {kind for kind in kinds.values() if kind}
 calls = {}
 for name, body in bodies.items():
     calls[name] = set()
-    for path, function in re.findall(r'(?<![.\w])((?:\w+::)*)(\w+)\s*\(', body):
+    for function in re.findall(r'(?<!\.)\.\s*(\w+)\s*(?:::<[^()]*>)?\(', body):
+        calls[name] |= methods.get(function, set())
+    for path, function in re.findall(r'(?<!\w)(?<!(?<!\.)\.)((?:\w+::)*)(\w+)\s*(?:::<[^()]*>)?\(', body):
+        owner = path.split('::')[-2] if path else ''
+        owner = kinds[name] if owner == 'Self' else owner
+        if owner[:1].isupper():
+            declared = methods.get(function, ())
+            calls[name] |= {key for key in declared if owner not in types or key.split('::')[-2] == owner}
+            continue
         first = path.split('::')[0] or function
         first = brought[name].get(first, first)
         called = '%s::%s' % (first if first in crates else name.split('::')[0], function)

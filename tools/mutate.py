@@ -5,7 +5,7 @@ time, and asks the prover about each. A change that leaves every theorem proved 
     mutate.py CRATE [--file PART] [--only REGEX] [--sample N] [--seed S] [--jobs J] [--list]
 
 Each change is tried on copies, outside the checkout: on CRATE, then on each crate of definitions and theorems
-that rests on it (one whose source has no function), until one refuses. `rt check` checks them over copies of
+that rests on it (one that has specs/Paper), until one refuses. `rt check` checks them over copies of
 their out/ folders, so only what rests on the changed definition is checked again.
 
 The changes, all on the right sides of definitions: an operator (`ltb` to `leb`, + to -, `min` to `max`, <
@@ -60,7 +60,7 @@ def rests_on(name, other):
 
 
 def is_theory(name):
-    return not any(re.search(r'^[^/\n]*\bfn \w+\(', read(p), re.M) for p in glob.glob('crates/%s/src/*.rt' % name))
+    return os.path.isdir('crates/%s/specs/Paper' % name)
 
 
 def tried_on(crate):

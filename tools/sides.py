@@ -46,7 +46,9 @@ def statements(root, folder):
         inner = path[len(root) + 8:]
         if folder == 'proofs' and (inner.count('/') > 2 and inner.split('/')[0][:9] != 'lighting_' and not inner.split('/')[2][0].isupper()):
             continue
-        if os.path.basename(path) in ('Lib.antt', 'Laws.antt', 'Answers.antt', 'Invariants.antt', 'Figures.antt'):
+        if os.path.basename(path) in ('Lib.antt', 'Laws.antt', 'Figures.antt'):
+            continue
+        if folder == 'proofs' and os.path.basename(path) in ('Answers.antt', 'Invariants.antt'):
             continue
         lines = [l.split('--')[0].rstrip() for l in open(path)]
         i = 0

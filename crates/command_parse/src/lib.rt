@@ -9,7 +9,7 @@ ghost use Rattle.lighting_frames.specs.Paper.Frames.{tagged_request};
 
 use lighting_frames::TaggedCommand;
 use lighting_outputs::{
-    Command, Duration, Operation, OperationFields, OutputRequest, Parameters, Refusal, Request,
+    Asked, Command, Duration, Operation, OperationFields, OutputRequest, Parameters, Refusal,
 };
 
 // ---- the ranges: the refusal that a field meets, if it is out of its range
@@ -60,7 +60,7 @@ pub fn fields_refusal(parameters: Parameters, f: OperationFields) -> Option<Refu
 
 // ---- the request
 
-fn commanded(operation: Operation, duration: Duration) -> Request
+fn commanded(operation: Operation, duration: Duration) -> Asked
     ensures { result ≡ Ok (OutputRequest.Commands (record { operation = operation; duration = duration })) }
 {
     Ok(OutputRequest::Commands(Command {
@@ -71,7 +71,7 @@ fn commanded(operation: Operation, duration: Duration) -> Request
 
 // An operation with a duration that is there: 0 cancels, 100 to the longest sets.
 #[tactic(auto, using(lighting_levels::proofs::Choosing::ifs), unfolding(lighting_outputs::specs::Paper::Requests::command_lasting))]
-fn command_lasting(parameters: Parameters, operation: Operation, d: u32) -> Request
+fn command_lasting(parameters: Parameters, operation: Operation, d: u32) -> Asked
     ensures { result ≡ command_lasting parameters operation d }
 {
     if d == 0 {
@@ -88,7 +88,7 @@ fn command_with_duration(
     parameters: Parameters,
     operation: Operation,
     duration: Option<u32>,
-) -> Request
+) -> Asked
     ensures { result ≡ command_with_duration parameters operation duration }
 {
     match duration {
@@ -99,7 +99,7 @@ fn command_with_duration(
 
 // In whatever form a command came, the duration comes after the operation's own fields.
 #[tactic(auto, unfolding(lighting_outputs::specs::Paper::Requests::command_of, lighting_outputs::specs::Paper::Requests::command_request_by))]
-pub fn command_of(parameters: Parameters, operation: Operation, duration: Option<u32>) -> Request
+pub fn command_of(parameters: Parameters, operation: Operation, duration: Option<u32>) -> Asked
     ensures { result ≡ command_of parameters operation duration }
 {
     match fields_refusal(parameters, command_operations::fields_of(operation)) {
@@ -117,7 +117,7 @@ fn plain_duration(d: u32) -> Option<u32>
 }
 
 #[tactic(auto, unfolding(lighting_outputs::specs::Paper::Requests::command_request))]
-pub fn command_request(parameters: Parameters, operation: Operation, d: u32) -> Request
+pub fn command_request(parameters: Parameters, operation: Operation, d: u32) -> Asked
     ensures { result ≡ command_request parameters operation d }
 {
     command_of(parameters, operation, plain_duration(d))
@@ -125,7 +125,7 @@ pub fn command_request(parameters: Parameters, operation: Operation, d: u32) -> 
 
 // Kind 1B: an absent duration is a missing field, and FFFFFFFF is out of range.
 #[tactic(auto, unfolding(lighting_frames::specs::Paper::Frames::tagged_request))]
-pub fn tagged_request(parameters: Parameters, reading: Result<TaggedCommand, Refusal>) -> Request
+pub fn tagged_request(parameters: Parameters, reading: Result<TaggedCommand, Refusal>) -> Asked
     ensures { result ≡ tagged_request parameters reading }
 {
     let TaggedCommand {

@@ -5,6 +5,7 @@
 ghost use Rattle.std.specs.Prelude.{◌≡◌};
 ghost use Rattle.lighting_levels.specs.Paper.Level.{real};
 ghost use Rattle.lighting_levels.specs.Paper.Field.{big_endian};
+ghost use Rattle.lighting_outputs.specs.Paper.Answers.{as_request};
 ghost use Rattle.lighting_outputs.specs.Paper.Properties.{property_of, change_of};
 ghost use Rattle.lighting_outputs.specs.Paper.Requests.{write_level, write_of, empty_of, command_request};
 ghost use Rattle.lighting_frames.specs.Paper.Frames.{request_of};
@@ -12,14 +13,14 @@ ghost use Rattle.lighting_frames.specs.Paper.Frames.{request_of};
 use command_parse::{command_request, tagged_request};
 use frame_field::{byte_at, from_on, word32_at};
 use lighting_frames::Action;
-use lighting_outputs::{Operation, OutputRequest, Parameters, Refusal, Request};
+use lighting_outputs::{Asked, Operation, OutputRequest, Parameters, Refusal, Request};
 use property_write::property_of;
 use property_write::values::slot_of;
 
 // ---- kinds 02 to 05
 
 #[tactic(auto, unfolding(lighting_outputs::specs::Paper::Requests::write_level))]
-fn write_level(i: u8, v: Option<u32>) -> Request
+fn write_level(i: u8, v: Option<u32>) -> Asked
     ensures { result ≡ write_level i v }
 {
     let level = v.ok_or(Refusal::RealOutOfRange)?;
@@ -27,7 +28,7 @@ fn write_level(i: u8, v: Option<u32>) -> Request
 }
 
 #[tactic(auto, using(lighting_levels::proofs::Choosing::ifs), unfolding(lighting_outputs::specs::Paper::Requests::write_of))]
-fn write_of(n: u8, x: u32) -> Request
+fn write_of(n: u8, x: u32) -> Asked
     ensures { result ≡ write_of n x }
 {
     if number_ranges::is_priority(u32::from(n)) {
@@ -38,7 +39,7 @@ fn write_of(n: u8, x: u32) -> Request
 }
 
 #[tactic(auto, using(lighting_levels::proofs::Choosing::ifs), unfolding(lighting_outputs::specs::Paper::Requests::empty_of))]
-fn empty_of(p: u8) -> Request
+fn empty_of(p: u8) -> Asked
     ensures { result ≡ empty_of p }
 {
     if number_ranges::is_priority(u32::from(p)) {
@@ -52,7 +53,7 @@ fn empty_of(p: u8) -> Request
 
 // ---- the request
 
-fn change_of(parameters: Parameters, n: u8, x: u32) -> Request
+fn change_of(parameters: Parameters, n: u8, x: u32) -> Asked
     ensures { result ≡ change_of parameters (property_of n) x }
 {
     property_write::change_of(parameters, property_of(n), x)
@@ -60,9 +61,9 @@ fn change_of(parameters: Parameters, n: u8, x: u32) -> Request
 
 // A command whose duration stands at a place of the frame: its last field.
 fn command_at(parameters: Parameters, operation: Operation, b: &[u8], at: usize) -> Request
-    ensures { result ≡ command_request parameters operation (big_endian 4 b.now at) }
+    ensures { result ≡ as_request (command_request parameters operation (big_endian 4 b.now at)) }
 {
-    command_request(parameters, operation, word32_at(b, at))
+    Request::from(command_request(parameters, operation, word32_at(b, at)))
 }
 
 fn real_at(b: &[u8], at: usize) -> f32
@@ -76,10 +77,14 @@ pub fn request_of(parameters: Parameters, action: Action, b: &[u8]) -> Request
     ensures { result ≡ request_of parameters action b.now }
 {
     match action {
-        Action::WritesLevel => write_of(byte_at(b, 13), word32_at(b, 14)),
-        Action::EmptiesSlot => empty_of(byte_at(b, 13)),
-        Action::WritesProperty => change_of(parameters, byte_at(b, 13), word32_at(b, 14)),
-        Action::ReadsProperty => Ok(OutputRequest::Read(property_of(byte_at(b, 13)))),
+        Action::WritesLevel => Request::from(write_of(byte_at(b, 13), word32_at(b, 14))),
+        Action::EmptiesSlot => Request::from(empty_of(byte_at(b, 13))),
+        Action::WritesProperty => {
+            Request::from(change_of(parameters, byte_at(b, 13), word32_at(b, 14)))
+        }
+        Action::ReadsProperty => {
+            Request::ToOutput(OutputRequest::Read(property_of(byte_at(b, 13))))
+        }
         Action::Stops => command_at(parameters, Operation::Stop, b, 13),
         Action::FadesTo => command_at(parameters, Operation::FadeTo(real_at(b, 13)), b, 17),
         Action::FadesToOver => command_at(
@@ -101,9 +106,9 @@ pub fn request_of(parameters: Parameters, action: Action, b: &[u8]) -> Request
         Action::StepsDownBy => command_at(parameters, Operation::StepDownBy(real_at(b, 13)), b, 17),
         Action::GoesTo => command_at(parameters, Operation::Goto(real_at(b, 13)), b, 17),
         Action::Relinquishes => command_at(parameters, Operation::Relinquish, b, 13),
-        Action::CommandsTagged => tagged_request(
+        Action::CommandsTagged => Request::from(tagged_request(
             parameters,
             tag_reading::read_body(from_on(b, 13)),
-        ),
+        )),
     }
 }

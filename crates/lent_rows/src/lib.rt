@@ -40,11 +40,6 @@ pub trait Record: Copy {
     ghost within: { LENGTH ≤ NUMBERS };
 }
 
-// Whether a record is a fresh one: the two have the same row.
-pub fn is_fresh<R: Record>(record: R) -> bool {
-    record.row(0) == R::fresh().row(0)
-}
-
 // ---- a row, read
 
 // A row as far as it is read: its letter, once it has come; the numbers that are whole, and zeros after them;

@@ -179,8 +179,8 @@ fn put_settings(n: &mut [u64; NUMBERS], settings: Settings) {
 
 fn put_slots(n: &mut [u64; NUMBERS], slots: Slots) {
     n[11] = u64::from(slots.live);
-    for (number, level) in n[12..].iter_mut().zip(slots.levels) {
-        *number = u64::from(level);
+    for (number, level) in n[12..].iter_mut().zip(&slots.levels) {
+        *number = u64::from(*level);
     }
 }
 

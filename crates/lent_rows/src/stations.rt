@@ -31,8 +31,8 @@ impl Record for Station {
         n[1] = kind;
         n[2] = number;
         n[3] = u64::from(self.number);
-        for (number, byte) in n[4..].iter_mut().zip(self.frame) {
-            *number = u64::from(byte);
+        for (number, byte) in n[4..].iter_mut().zip(&self.frame) {
+            *number = u64::from(*byte);
         }
         n
     }

@@ -37,32 +37,20 @@ const STATIONS: usize = 33;
 
 // The tables, of which the first so many records are lent, and the panel's own record.
 #[derive(Drop)]
-struct Tables {
-    outputs: [Output; OUTPUTS],
-    stations: [Station; STATIONS],
+struct Tables<'a> {
+    outputs: &'a mut [Output],
+    stations: &'a mut [Station],
     kept: PanelRecord,
     lent_outputs: usize,
     lent_stations: usize,
 }
 
-impl Tables {
-    // None is lent.
-    fn new() -> Tables {
-        let parameters = panel_record::four_hours(1);
-        Tables {
-            outputs: [output_fresh::fresh_output(parameters); OUTPUTS],
-            stations: [output_fresh::fresh_station(); STATIONS],
-            kept: panel_record::fresh_record(parameters, 0),
-            lent_outputs: 0,
-            lent_stations: 0,
-        }
-    }
-
+impl<'a> Tables<'a> {
     // Every record fresh, as many lent as the row says, and the set that of the old panel.
     fn clear(&mut self, row: &[u64; NUMBERS]) {
         let parameters = panel_record::four_hours(row[0].narrow());
-        panel_tables::fresh_outputs(&mut self.outputs, parameters);
-        panel_tables::fresh_stations(&mut self.stations);
+        panel_tables::fresh_outputs(self.outputs, parameters);
+        panel_tables::fresh_stations(self.stations);
         self.keep(parameters, 0, row[2]);
         self.lent_outputs = place(row[0]);
         self.lent_stations = place(row[1]);
@@ -79,8 +67,8 @@ impl Tables {
     // Stays: like `send` only in what it lends, the tables and their counts.
     fn start(&mut self, parameters: Parameters, tenants: u32) -> Answer {
         lent_parts::start(
-            &mut self.outputs,
-            &mut self.stations,
+            self.outputs,
+            self.stations,
             &mut self.kept,
             self.lent_outputs,
             self.lent_stations,
@@ -92,8 +80,8 @@ impl Tables {
     // The first so many bytes go to the panel.
     fn send(&mut self, bytes: &[u8], count: usize) -> Answer {
         lent_parts::send(
-            &mut self.outputs,
-            &mut self.stations,
+            self.outputs,
+            self.stations,
             &mut self.kept,
             self.lent_outputs,
             self.lent_stations,
@@ -113,17 +101,20 @@ fn lend<R: Record>(records: &mut [R], row: &[u64; NUMBERS]) {
 
 // ---- what is left
 
-// A row for each of the first so many records that is not fresh.
+// A row for each of the first so many records that is not fresh: whose row, but for its place, is not that of
+// a fresh one, which is made once.
 fn put_records<R: Record, W: Write>(
     records: &[R],
     lent: usize,
     out: &mut W,
     page: &mut Page,
 ) -> io::Result<()> {
+    let mut fresh = R::fresh().row(0);
     for (at, record) in records.iter().enumerate().take(lent) {
-        if !lent_rows::is_fresh(*record) {
+        let row = record.row(at);
+        fresh[0] = row[0];
+        if row != fresh {
             text_found::with_room(out, page)?;
-            let row = record.row(at);
             lent_rows::put_row(page, R::LETTER, &row[..R::LENGTH]);
         }
     }
@@ -135,14 +126,17 @@ fn put_left<W: Write>(tables: &Tables, out: &mut W, page: &mut Page) -> io::Resu
     let counts = [
         tables.lent_outputs as u64,
         tables.lent_stations as u64,
-        tables.kept.time,
+        panel_record::time_of(tables.kept),
     ];
     lent_rows::put_row(page, b't', &counts);
     text_found::with_room(out, page)?;
-    let set = parameters_numbers(tables.kept.parameters, tables.kept.tenants);
+    let set = parameters_numbers(
+        panel_record::parameters_of(tables.kept),
+        panel_record::tenants_of(tables.kept),
+    );
     lent_rows::put_row(page, b'p', &set);
-    put_records(&tables.outputs, tables.lent_outputs, out, page)?;
-    put_records(&tables.stations, tables.lent_stations, out, page)
+    put_records(tables.outputs, tables.lent_outputs, out, page)?;
+    put_records(tables.stations, tables.lent_stations, out, page)
 }
 
 // ---- rows
@@ -163,12 +157,12 @@ fn take_row<W: Write>(
     let numbers = &row.numbers;
     match row.letter {
         Some(b't') => tables.clear(numbers),
-        Some(b'o') => lend(&mut tables.outputs, numbers),
-        Some(b's') => lend(&mut tables.stations, numbers),
+        Some(b'o') => lend(tables.outputs, numbers),
+        Some(b's') => lend(tables.stations, numbers),
         Some(b'p') => tables.keep(
             parameters_of(numbers),
             tenants_of(numbers),
-            tables.kept.time,
+            panel_record::time_of(tables.kept),
         ),
         Some(b'b') => {
             let answer = tables.start(parameters_of(numbers), tenants_of(numbers));
@@ -226,9 +220,18 @@ fn take_all<R: Read, W: Write>(
     Ok(())
 }
 
-// Over tables of its own.
+// Over tables of its own, of which none is lent as yet.
 pub fn run<R: Read, W: Write>(input: &mut R, out: &mut W) -> io::Result<()> {
-    let mut tables = Tables::new();
+    let parameters = panel_record::four_hours(1);
+    let mut outputs = [output_fresh::fresh_output(parameters); OUTPUTS];
+    let mut stations = [output_fresh::fresh_station(); STATIONS];
+    let mut tables = Tables {
+        outputs: &mut outputs,
+        stations: &mut stations,
+        kept: panel_record::fresh_record(parameters, 0),
+        lent_outputs: 0,
+        lent_stations: 0,
+    };
     let mut bytes = [0u8; 65536];
     let mut page = Page::new(&mut bytes);
     let mut chunk = [0u8; 65536];

@@ -11,14 +11,15 @@ use Rattle.lighting_frames.specs.declared.Kind.{Kind}
 use Rattle.lighting_frames.specs.declared.TagContent.{TagContent}
 use Rattle.lighting_frames.specs.declared.TagFields.{TagFields}
 use Rattle.lighting_frames.specs.declared.TaggedCommand.{TaggedCommand}
-use Rattle.lighting_outputs.specs.Paper.Answers.{Request}
+use Rattle.lighting_outputs.specs.Paper.Answers.{Asked}
 use Rattle.lighting_outputs.specs.declared.Parameters.{Parameters}
+use Rattle.lighting_outputs.specs.declared.Request.{Request}
 use Rattle.lighting_outputs.specs.declared.refusals.Refusal.{Refusal}
 use Rattle.std.specs.Prelude.{Float, Option, Result}
 use mathlib.Core.Bool.{Bool}
 use mathlib.Core.List.{List}
 
-pub tagged_request_on : (x0 : Parameters) (x1 : Result TaggedCommand Refusal) (k : Result TaggedCommand Refusal) (r : Request) → x1 ≡ k → r ≡ tagged_request x0 k → r ≡ tagged_request x0 x1
+pub tagged_request_on : (x0 : Parameters) (x1 : Result TaggedCommand Refusal) (k : Result TaggedCommand Refusal) (r : Asked) → x1 ≡ k → r ≡ tagged_request x0 k → r ≡ tagged_request x0 x1
 tagged_request_on x0 x1 k r e p = rw e p
 
 pub request_of_on : (x0 : Parameters) (x1 : Action) (x2 : Bytes) (k : Action) (r : Request) → x1 ≡ k → r ≡ request_of x0 k x2 → r ≡ request_of x0 x1 x2

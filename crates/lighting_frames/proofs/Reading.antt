@@ -31,10 +31,10 @@ use Rattle.lighting_outputs.proofs.Rules.Rows.{priority_of, change_good}
 use Rattle.lighting_outputs.proofs.Rules.CommandRanges.{command_request_good}
 use Rattle.lighting_frames.proofs.Tagging.Refused.{tagged_good}
 use Rattle.lighting_outputs.specs.declared.refusals.Refusal.{Refusal}
-use Rattle.lighting_outputs.specs.Paper.Answers.{refusal_number}
+use Rattle.lighting_outputs.specs.Paper.Answers.{as_request, refusal_number}
 
 -- KINDS 02 TO 05
-level_good : (p : Parameters) (i : ℕ) (l : Option ℕ) → Slot i → ((v : ℕ) → l ≡ Some v → (least_level * min 1 v ≤ v) × (v ≤ greatest_level)) → RequestInRange p (write_level i l)
+level_good : (p : Parameters) (i : ℕ) (l : Option ℕ) → Slot i → ((v : ℕ) → l ≡ Some v → (least_level * min 1 v ≤ v) × (v ≤ greatest_level)) → RequestInRange p (as_request (write_level i l))
 unfolding write_level
 level_good p i (Some v) g f = let r = f v refl in (g, record { least = r.0; most = r.1 })
 level_good p i None g f = omega arith

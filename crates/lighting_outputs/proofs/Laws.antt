@@ -4,7 +4,7 @@ use Prim.Native.Nat.{ℕ}
 use Rattle.lighting_outputs.specs.Engine.Advance.{sooner}
 use Rattle.lighting_outputs.specs.Engine.Light.{count_before, count_since, lit_by_pace, lit_in_movement}
 use Rattle.lighting_outputs.specs.Paper.Acting.{acted, served, Served}
-use Rattle.lighting_outputs.specs.Paper.Answers.{answer_bytes, level_answered, Request}
+use Rattle.lighting_outputs.specs.Paper.Answers.{answer_bytes, level_answered, Asked}
 use Rattle.lighting_outputs.specs.Paper.Commands.{without_warning, activity_without_warning, stopped, effect, timed}
 use Rattle.lighting_outputs.specs.Paper.Operations.{operation_number, fields_of, duration_field}
 use Rattle.lighting_outputs.specs.Paper.Parameters.{Parameters}
@@ -31,6 +31,7 @@ use Rattle.lighting_outputs.specs.declared.Pace.{Pace}
 use Rattle.lighting_outputs.specs.declared.Phase.{Phase}
 use Rattle.lighting_outputs.specs.declared.Property.{Property}
 use Rattle.lighting_outputs.specs.declared.Range.{Range}
+use Rattle.lighting_outputs.specs.declared.Request.{Request}
 use Rattle.lighting_outputs.specs.declared.Settings.{Settings}
 use Rattle.lighting_outputs.specs.declared.Timer.{Timer}
 use Rattle.lighting_outputs.specs.declared.Warning.{Warning}
@@ -126,10 +127,10 @@ next_slots_on x0 x1 k r e p = rw e p
 pub number_of_on : (x0 : Property) (k : Property) (r : ℕ) → x0 ≡ k → r ≡ number_of k → r ≡ number_of x0
 number_of_on x0 k r e p = rw e p
 
-pub change_to_on : (x0 : Property) (x1 : Option ℕ) (k : Option ℕ) (r : Request) → x1 ≡ k → r ≡ change_to x0 k → r ≡ change_to x0 x1
+pub change_to_on : (x0 : Property) (x1 : Option ℕ) (k : Option ℕ) (r : Asked) → x1 ≡ k → r ≡ change_to x0 k → r ≡ change_to x0 x1
 change_to_on x0 x1 k r e p = rw e p
 
-pub change_by_on : (x0 : Range) (x1 : Property) (x2 : ℕ) (k : Range) (r : Request) → x0 ≡ k → r ≡ change_by k x1 x2 → r ≡ change_by x0 x1 x2
+pub change_by_on : (x0 : Range) (x1 : Property) (x2 : ℕ) (k : Range) (r : Asked) → x0 ≡ k → r ≡ change_by k x1 x2 → r ≡ change_by x0 x1 x2
 change_by_on x0 x1 x2 k r e p = rw e p
 
 pub end_movement_on : (x0 : Activity) (k : Activity) (r : Activity) → x0 ≡ k → r ≡ end_movement k → r ≡ end_movement x0
@@ -162,13 +163,13 @@ time_field_refusal_on x0 x1 k r e p = rw e p
 pub first_refusal_on : (x0 : Option Refusal) (x1 : Option Refusal) (k : Option Refusal) (r : Option Refusal) → x0 ≡ k → r ≡ first_refusal k x1 → r ≡ first_refusal x0 x1
 first_refusal_on x0 x1 k r e p = rw e p
 
-pub command_with_duration_on : (x0 : Parameters) (x1 : Operation) (x2 : Option ℕ) (k : Option ℕ) (r : Request) → x2 ≡ k → r ≡ command_with_duration x0 x1 k → r ≡ command_with_duration x0 x1 x2
+pub command_with_duration_on : (x0 : Parameters) (x1 : Operation) (x2 : Option ℕ) (k : Option ℕ) (r : Asked) → x2 ≡ k → r ≡ command_with_duration x0 x1 k → r ≡ command_with_duration x0 x1 x2
 command_with_duration_on x0 x1 x2 k r e p = rw e p
 
-pub command_request_by_on : (x0 : Parameters) (x1 : Option Refusal) (x2 : Operation) (x3 : Option ℕ) (k : Option Refusal) (r : Request) → x1 ≡ k → r ≡ command_request_by x0 k x2 x3 → r ≡ command_request_by x0 x1 x2 x3
+pub command_request_by_on : (x0 : Parameters) (x1 : Option Refusal) (x2 : Operation) (x3 : Option ℕ) (k : Option Refusal) (r : Asked) → x1 ≡ k → r ≡ command_request_by x0 k x2 x3 → r ≡ command_request_by x0 x1 x2 x3
 command_request_by_on x0 x1 x2 x3 k r e p = rw e p
 
-pub write_level_on : (x0 : ℕ) (x1 : Option ℕ) (k : Option ℕ) (r : Request) → x1 ≡ k → r ≡ write_level x0 k → r ≡ write_level x0 x1
+pub write_level_on : (x0 : ℕ) (x1 : Option ℕ) (k : Option ℕ) (r : Asked) → x1 ≡ k → r ≡ write_level x0 k → r ≡ write_level x0 x1
 write_level_on x0 x1 k r e p = rw e p
 
 pub row_of_on : (x0 : Parameters) (x1 : Property) (k : Property) (r : Range) → x1 ≡ k → r ≡ row_of x0 k → r ≡ row_of x0 x1

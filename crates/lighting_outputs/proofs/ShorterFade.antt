@@ -1,7 +1,7 @@
 -- A SHORTER LONGEST FADE (§7): two sets that differ in it alone. A record that keeps the rules by the shorter
 -- one keeps them by the longer one. A request is read alike by both, unless it takes a fade time between the
 -- two: by the shorter one that is 12.
-use Rattle.std.specs.Prelude.{Option, Some, None, Ok, Err}
+use Rattle.std.specs.Prelude.{Option, Some, None}
 use mathlib.Core.Path.{◌≡◌, refl, ap, ◌∙◌}
 use mathlib.Core.Bool.{Bool, true, false}
 use Prim.Native.Nat.{ℕ, suc, ◌≤◌}
@@ -26,7 +26,9 @@ use Rattle.lighting_outputs.specs.declared.OutputRequest.{OutputRequest}
 use Rattle.lighting_outputs.specs.declared.OutputRequest.TheVariants.{Change, Commands}
 use Rattle.lighting_outputs.specs.declared.Property.{Property}
 use Rattle.lighting_outputs.specs.declared.Property.TheVariants.{FadeTime}
-use Rattle.lighting_outputs.specs.Paper.Answers.{Request}
+use Rattle.lighting_outputs.specs.Paper.Answers.{as_request}
+use Rattle.lighting_outputs.specs.declared.Request.{Request}
+use Rattle.lighting_outputs.specs.declared.Request.TheVariants.{Refuse, ToOutput}
 use Rattle.lighting_outputs.specs.declared.Settings.{Settings}
 use Rattle.lighting_levels.proofs.Split.{by_bool, by_le, also_both, also_yes, leb_yes, leb_no, le_of}
 use Rattle.lighting_outputs.proofs.Rules.Rows.{same_is, row_reads}
@@ -45,8 +47,8 @@ pub data TakesFade : OutputRequest → Type 0 where
 
 pub data Shortened (between : Bool) : Request → Request → Type 0 where
   alike : {request : Request} → between ≡ false → Shortened between request request
-  refused : {refusal : Refusal} → Shortened between (Err refusal) (Err refusal)
-  cut : {request : OutputRequest} → between ≡ true → TakesFade request → Shortened between (Ok request) (Err WholeOutOfRange)
+  refused : {refusal : Refusal} → Shortened between (Refuse refusal) (Refuse refusal)
+  cut : {request : OutputRequest} → between ≡ true → TakesFade request → Shortened between (ToOutput request) (Refuse WholeOutOfRange)
 
 -- a conjunction whose parts imply those of another
 also_then : {a a' b b' : Bool} → (a ≡ true → a' ≡ true) → (b ≡ true → b' ≡ true) → (a also b) ≡ true → (a' also b') ≡ true
@@ -113,7 +115,7 @@ module _ (p : Parameters) (fade : ℕ) (less : fade ≤ p.fade) where
       (λ past highest. outside (rw (leb_yes {a = suc fade} {b = x} (omega arith), highest)) (rw (high, highest))))
 
   -- a write of a property
-  fade_time : (x : ℕ) → Shortened (within (suc fade) p.fade x) (change_of p FadeTime x) (change_of shorter FadeTime x)
+  fade_time : (x : ℕ) → Shortened (within (suc fade) p.fade x) (as_request (change_of p FadeTime x)) (as_request (change_of shorter FadeTime x))
   unfolding change_of change_by when◌then◌else◌
   fade_time x =
       by_time x
@@ -123,8 +125,8 @@ module _ (p : Parameters) (fade : ℕ) (less : fade ≤ p.fade) where
 
   pub change : (property : Property) (x : ℕ)
       → Shortened (same FadeTime property also within (suc fade) p.fade x)
-      (change_of p property x)
-      (change_of shorter property x)
+      (as_request (change_of p property x))
+      (as_request (change_of shorter property x))
   unfolding change_of when◌then◌else◌
   change property x =
       by_bool (same FadeTime property)
@@ -157,7 +159,7 @@ module _ (p : Parameters) (fade : ℕ) (less : fade ≤ p.fade) where
   lasting operation None = refl
 
   taken : (between : Bool) → between ≡ true → (operation : Operation) (field : Option ℕ)
-      → Shortened between (command_with_duration p operation field) (Err WholeOutOfRange)
+      → Shortened between (as_request (command_with_duration p operation field)) (Refuse WholeOutOfRange)
   unfolding command_with_duration command_lasting when◌then◌else◌
   taken between h operation (Some d) =
       by_bool (eqb d 0)
@@ -166,15 +168,15 @@ module _ (p : Parameters) (fade : ℕ) (less : fade ≤ p.fade) where
   taken between h operation None = cut h commanded
 
   same_by : {between : Bool} (operation : Operation) (duration : Option ℕ) (refusal : Option Refusal) → between ≡ false
-      → Shortened between (command_request_by p refusal operation duration) (command_request_by shorter refusal operation duration)
+      → Shortened between (as_request (command_request_by p refusal operation duration)) (as_request (command_request_by shorter refusal operation duration))
   unfolding command_request_by
   same_by operation duration (Some refusal) none = refused
   same_by operation duration None none = rw (lasting operation duration) (alike none)
 
   by_fade : (operation : Operation) (duration field : Option ℕ) (reals : Option Refusal)
       → Shortened (time_within (suc fade) p.fade field)
-      (command_request_by p (first_refusal reals (time_field_refusal p field)) operation duration)
-      (command_request_by shorter (first_refusal reals (time_field_refusal shorter field)) operation duration)
+      (as_request (command_request_by p (first_refusal reals (time_field_refusal p field)) operation duration))
+      (as_request (command_request_by shorter (first_refusal reals (time_field_refusal shorter field)) operation duration))
   unfolding time_within command_request_by first_refusal time_field_refusal meets when◌then◌else◌
   by_fade operation duration None None = rw (lasting operation duration) (alike refl)
   by_fade operation duration None (Some refusal) = refused
@@ -187,8 +189,8 @@ module _ (p : Parameters) (fade : ℕ) (less : fade ≤ p.fade) where
 
   pub command : (operation : Operation) (duration : Option ℕ)
       → Shortened (time_within (suc fade) p.fade (fields_of operation).fade)
-      (command_of p operation duration)
-      (command_of shorter operation duration)
+      (as_request (command_of p operation duration))
+      (as_request (command_of shorter operation duration))
   unfolding command_of
   command operation duration =
       rw (fields_then p (fields_of operation), fields_then shorter (fields_of operation))

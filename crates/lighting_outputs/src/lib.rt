@@ -3,6 +3,9 @@
 // 1, and slot 6 of the paper is 5. Times are in milliseconds.
 #![tactic(auto)]
 
+ghost use Rattle.std.specs.Prelude.{◌≡◌};
+ghost use Rattle.lighting_outputs.specs.Paper.Answers.{as_request};
+
 mod refusals;
 
 pub use refusals::Refusal;
@@ -272,10 +275,29 @@ pub enum OutputRequest {
     Commands(Command),
 }
 
+// What a frame's fields come to: what they ask of its output, or the refusal that they meet, 9 to 12, 14 or
+// 15 (a read of an unknown property meets its 9 when it is answered).
+pub type Asked = Result<OutputRequest, Refusal>;
+
 // What a frame asks: something of its own output, and of no other; or nothing, by the refusal that its fields
-// meet, 9 to 12, 14 or 15 (a read of an unknown property meets its 9 when it is answered). A request to the
-// whole table is a case of its own here.
-pub type Request = Result<OutputRequest, Refusal>;
+// meet. A request to the whole table is a case of its own here.
+// Stays: no Result, which can gain no such case.
+#[derive(Clone, Copy)]
+pub enum Request {
+    Refuse(Refusal),
+    ToOutput(OutputRequest),
+}
+
+impl From<Asked> for Request {
+    ghost from_gives = { λ asked request. request ≡ as_request asked };
+
+    fn from(asked: Asked) -> Request {
+        match asked {
+            Ok(request) => Request::ToOutput(request),
+            Err(refusal) => Request::Refuse(refusal),
+        }
+    }
+}
 
 // ---- results of acting
 

@@ -30,10 +30,11 @@ fn arrive(
     requires arrival { Arrival kept.old.time (length outputs.old) (length stations.old) bytes.now call }
     ensures { panel_result (panel_of outputs.new stations.new kept.new) result ≡ execute bytes.now (panel_of outputs.old stations.old kept.old) (Ok (Verdict.Arrives call)) }
 {
-    panel_tables::advance_outputs(outputs, kept.time, call.time);
+    let before = *kept;
+    panel_tables::advance_outputs(outputs, panel_record::time_of(before), call.time);
     let answer = panel_tables::serve(
         outputs,
-        tenant_view::is_tenant(kept.tenants, call.station),
+        tenant_view::is_tenant(panel_record::tenants_of(before), call.station),
         PanelTime::new(call.time),
         number_ranges::index(call.output),
         call.request,
@@ -43,7 +44,7 @@ fn arrive(
         call.number,
         bytes,
     );
-    kept.time = call.time;
+    *kept = panel_record::with_time(before, call.time);
     answer
 }
 
@@ -64,8 +65,9 @@ fn execute(
         Err(refusal) => Answer::from(refusal),
         Ok(Verdict::Copied(a)) => a,
         Ok(Verdict::Clocked(t)) => {
-            panel_tables::advance_outputs(outputs, kept.time, t);
-            kept.time = t;
+            let before = *kept;
+            panel_tables::advance_outputs(outputs, panel_record::time_of(before), t);
+            *kept = panel_record::with_time(before, t);
             Answer::Done
         }
         Ok(Verdict::Arrives(call)) => arrive(outputs, stations, kept, bytes, call),
@@ -106,9 +108,10 @@ pub fn frame(
 ) -> Answer
     ensures { panel_result (panel_of outputs.new stations.new kept.new) result ≡ frame_step (panel_of outputs.old stations.old kept.old) bytes.now }
 {
-    if !panel_judging::panel_sound(outputs, stations, *kept) {
+    let record = *kept;
+    if !panel_judging::panel_sound(outputs, stations, record) {
         return Answer::from(Refusal::BrokenRecords);
     }
-    let verdict = panel_judging::decide(outputs, stations, *kept, bytes);
+    let verdict = panel_judging::decide(outputs, stations, record, bytes);
     execute(outputs, stations, kept, bytes, verdict)
 }

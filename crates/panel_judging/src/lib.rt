@@ -35,10 +35,10 @@ fn stations_sound(stations: &[Station]) -> bool
 pub fn panel_sound(outputs: &[Output], stations: &[Station], kept: PanelRecord) -> bool
     ensures { result ≡ panel_sound (panel_of outputs.now stations.now kept) }
 {
-    let parameters = kept.parameters;
+    let parameters = panel_record::parameters_of(kept);
     panel_record::is_startable(parameters)
         && station_judging::counts_sound(parameters, outputs.len(), stations.len())
-        && outputs_sound(outputs, parameters, kept.time)
+        && outputs_sound(outputs, parameters, panel_record::time_of(kept))
         && stations_sound(stations)
 }
 
@@ -56,7 +56,8 @@ pub fn decide(
     requires stations_len { length stations.now ≡ kept.parameters.stations }
     ensures { result ≡ decide (panel_of outputs.now stations.now kept) bytes.now }
 {
-    let f = frame_parse::parse(kept.parameters, outputs.len(), bytes);
+    let parameters = panel_record::parameters_of(kept);
+    let f = frame_parse::parse(parameters, outputs.len(), bytes);
     let at = number_ranges::index(station_judging::station_of(f));
-    station_judging::judge_by_station(kept.time, stations[at], bytes, f)
+    station_judging::judge_by_station(panel_record::time_of(kept), stations[at], bytes, f)
 }

@@ -51,6 +51,27 @@ pub fn fresh_record(parameters: Parameters, tenants: u32) -> PanelRecord
     }
 }
 
+// Stays: what may not change. docs/DESIGN.md says that the panel's record is read here, by value, and nowhere
+// else, so that a later change of it moves these.
+pub fn time_of(kept: PanelRecord) -> u64
+    ensures { result ≡ kept.time }
+{
+    kept.time
+}
+
+pub fn parameters_of(kept: PanelRecord) -> Parameters
+    ensures { result ≡ kept.parameters }
+{
+    kept.parameters
+}
+
+pub fn tenants_of(kept: PanelRecord) -> u32
+    ensures { result ≡ kept.tenants }
+{
+    kept.tenants
+}
+
+// It names no other field.
 pub fn with_time(kept: PanelRecord, t: u64) -> PanelRecord
     ensures { result ≡ with_time kept t }
 {

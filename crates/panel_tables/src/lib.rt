@@ -3,7 +3,7 @@
 // the work, and the record is put back.
 #![tactic(auto)]
 
-ghost use Rattle.std.specs.Prelude.{Ok, map, ◌≡◌, ◌≤◌, ◌<◌, length, replicate, set, get_or};
+ghost use Rattle.std.specs.Prelude.{map, ◌≡◌, ◌≤◌, ◌<◌, length, replicate, set, get_or};
 ghost use Rattle.lighting_outputs.specs.Paper.Fresh.{fresh_for, fresh_output};
 ghost use Rattle.lighting_frames.specs.Paper.Stations.{fresh_station};
 ghost use Rattle.lighting_outputs.specs.Engine.Advance.{advance};
@@ -89,8 +89,8 @@ fn serve_output(
     request: OutputRequest,
 ) -> Answer
     requires at_in_bounds { at < length outputs.old }
-    ensures value { result ≡ (served tenant time.milliseconds outputs.old at (Ok request)).answer }
-    ensures outputs_after { outputs.new ≡ (served tenant time.milliseconds outputs.old at (Ok request)).outputs }
+    ensures value { result ≡ (served tenant time.milliseconds outputs.old at (Request.ToOutput request)).answer }
+    ensures outputs_after { outputs.new ≡ (served tenant time.milliseconds outputs.old at (Request.ToOutput request)).outputs }
 {
     let done = output_acting::act(tenant, time, outputs[at], request);
     outputs[at] = done.output;
@@ -111,7 +111,7 @@ pub fn serve(
     ensures outputs_after { outputs.new ≡ (served tenant time.milliseconds outputs.old at request).outputs }
 {
     match request {
-        Err(refusal) => Answer::from(refusal),
-        Ok(asked) => serve_output(outputs, tenant, time, at, asked),
+        Request::Refuse(refusal) => Answer::from(refusal),
+        Request::ToOutput(asked) => serve_output(outputs, tenant, time, at, asked),
     }
 }

@@ -8,7 +8,7 @@ pub mod values;
 ghost use Rattle.std.specs.Prelude.{◌≡◌};
 ghost use Rattle.lighting_outputs.specs.Paper.Properties.{property_of, number_of, same, change_of};
 
-use lighting_outputs::{Parameters, Property, Request};
+use lighting_outputs::{Asked, Parameters, Property};
 use number_ranges::rows;
 
 // By its number. 21 to 30 are slots 1 to 16, counted from 0 here.
@@ -92,7 +92,7 @@ pub fn is_same(n: Property, m: Property) -> bool
 
 // Kind 04, a write, by the property's row and the value's 32 bits.
 #[tactic(auto, unfolding(lighting_outputs::specs::Paper::Properties::change_of))]
-pub fn change_of(parameters: Parameters, p: Property, x: u32) -> Request
+pub fn change_of(parameters: Parameters, p: Property, x: u32) -> Asked
     ensures { result ≡ change_of parameters p x }
 {
     values::change_by(rows::row_of(parameters, p), p, x)

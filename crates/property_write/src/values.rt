@@ -4,24 +4,24 @@ ghost use Rattle.std.specs.Prelude.{◌≡◌, true, ◌-◌};
 ghost use Rattle.lighting_outputs.specs.Paper.Rows.{is_priority};
 ghost use Rattle.lighting_outputs.specs.Paper.Properties.{change_to, change_by};
 
-use lighting_outputs::{OutputRequest, Property, Range, Refusal, Request};
+use lighting_outputs::{Asked, OutputRequest, Property, Range, Refusal};
 
 // The write of a value that is taken, as it is kept.
-fn kept(n: Property, value: u32) -> Request
+fn kept(n: Property, value: u32) -> Asked
     ensures { result ≡ Ok (OutputRequest.Change n value) }
 {
     Ok(OutputRequest::Change { property: n, value })
 }
 
 #[tactic(auto, unfolding(lighting_outputs::specs::Paper::Properties::change_to))]
-fn change_to(n: Property, v: Option<u32>) -> Request
+fn change_to(n: Property, v: Option<u32>) -> Asked
     ensures { result ≡ change_to n v }
 {
     kept(n, v.ok_or(Refusal::RealOutOfRange)?)
 }
 
 #[tactic(auto, using(crate::proofs::Priorities::priority_range, lighting_levels::proofs::Choosing::ifs, lighting_outputs::proofs::Laws::change_by_on), unfolding(lighting_outputs::specs::Paper::Properties::change_by))]
-pub fn change_by(row: Range, n: Property, x: u32) -> Request
+pub fn change_by(row: Range, n: Property, x: u32) -> Asked
     ensures { result ≡ change_by row n x }
 {
     match row {

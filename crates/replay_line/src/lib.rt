@@ -46,7 +46,7 @@ fn send(tables: &mut Tables, reader: &Reader) -> Answer
     ensures value { result ≡ (sent_on (content reader.now) (panel_in tables.old)).answer }
     ensures kept_after { tables.new ≡ with_panel tables.old (sent_on (content reader.now) (panel_in tables.old)).panel }
 {
-    let set = tables.kept.parameters;
+    let set = panel_record::parameters_of(*tables.kept);
     lent_parts::send(
         tables.outputs,
         tables.stations,

@@ -96,8 +96,8 @@ fn put_end<W: Write>(
     let kept = *tables.kept;
     text_found::put_found(
         tables.outputs,
-        kept.parameters.outputs as usize,
-        kept.time,
+        panel_record::parameters_of(kept).outputs as usize,
+        panel_record::time_of(kept),
         out,
         page,
         report,

@@ -6,6 +6,7 @@ use mathlib.Core.List.{List, [], ◌∷◌, map}
 use Prim.Native.Nat.{ℕ, ◌^◌, ◌<◌}
 use lib.Dec.{eqb}
 use Rattle.lighting_levels.specs.Paper.Choice.{when◌then◌else◌}
+use Rattle.lighting_outputs.specs.Paper.Answers.{as_request}
 use Rattle.lighting_outputs.specs.declared.Parameters.{Parameters}
 use Rattle.lighting_levels.specs.Paper.Level.{real}
 use Rattle.lighting_levels.specs.Paper.Field.{big_endian}
@@ -69,7 +70,7 @@ back k d =
 
 module _ (p : Parameters) (t t' : ℕ) (o : Output) where
   -- an operation whose fields are in range, and any
-  of_command_with_duration : (k : Operation) (d : ℕ) → (alone t o (command_with_duration p k (plain_duration d))).answer ≡ Done → last t' (alone t o (command_with_duration p k (plain_duration d))).output ≡ back k d
+  of_command_with_duration : (k : Operation) (d : ℕ) → (alone t o (as_request (command_with_duration p k (plain_duration d)))).answer ≡ Done → last t' (alone t o (as_request (command_with_duration p k (plain_duration d)))).output ≡ back k d
   unfolding acted served done unchanged after_events plain_duration command_with_duration command_lasting commanded commanded_from with_command property_of numbered read_property last_duration when◌then◌else◌
   of_command_with_duration k d =
       by_eq d 0xffff_ffff
@@ -80,14 +81,14 @@ module _ (p : Parameters) (t t' : ℕ) (o : Output) where
       (λ q f. rw f (by_bool (within 100 p.duration d) (λ g. rw g (λ h. refl)) (λ g. rw g (λ h. refused h))))))
 
   by_met : (met : Option Refusal) (k : Operation) (d : ℕ) (l : List Answer) → (met ≡ None → back k d ≡ l)
-      → (alone t o (command_request_by p met k (plain_duration d))).answer ≡ Done
-      → last t' (alone t o (command_request_by p met k (plain_duration d))).output ≡ l
+      → (alone t o (as_request (command_request_by p met k (plain_duration d)))).answer ≡ Done
+      → last t' (alone t o (as_request (command_request_by p met k (plain_duration d)))).output ≡ l
   unfolding command_request_by
   by_met (Some refusal) k d l f h = unfold served in (refused h)
   by_met None k d l f h = of_command_with_duration k d h ∙ f refl
 
   of_command_request : (k : Operation) (d : ℕ) (l : List Answer) → (fields_refusal p (fields_of k) ≡ None → back k d ≡ l)
-      → (alone t o (command_request p k d)).answer ≡ Done → last t' (alone t o (command_request p k d)).output ≡ l
+      → (alone t o (as_request (command_request p k d))).answer ≡ Done → last t' (alone t o (as_request (command_request p k d))).output ≡ l
   unfolding command_request command_of
   of_command_request k d l f = by_met (fields_refusal p (fields_of k)) k d l f
 
@@ -104,17 +105,17 @@ module _ (p : Parameters) (t t' : ℕ) (o : Output) where
 
     -- 'fields left to right', the duration last
     pub commands_asked : map (λ (k : ℕ). asked p k b) (0x10 ∷ 0x11 ∷ 0x12 ∷ 0x13 ∷ 0x14 ∷ 0x15 ∷ 0x16 ∷ 0x17 ∷ 0x18 ∷ 0x19 ∷ 0x1a ∷ [])
-        ≡ command_request p Stop x
-        ∷ command_request p (FadeTo (real x)) y
-        ∷ command_request p (FadeToOver (real x) y) z
-        ∷ command_request p (RampTo (real x)) y
-        ∷ command_request p (RampToAtRate (real x) (real y)) z
-        ∷ command_request p StepUp x
-        ∷ command_request p StepDown x
-        ∷ command_request p (StepUpBy (real x)) y
-        ∷ command_request p (StepDownBy (real x)) y
-        ∷ command_request p (Goto (real x)) y
-        ∷ command_request p Relinquish x
+        ≡ as_request (command_request p Stop x)
+        ∷ as_request (command_request p (FadeTo (real x)) y)
+        ∷ as_request (command_request p (FadeToOver (real x) y) z)
+        ∷ as_request (command_request p (RampTo (real x)) y)
+        ∷ as_request (command_request p (RampToAtRate (real x) (real y)) z)
+        ∷ as_request (command_request p StepUp x)
+        ∷ as_request (command_request p StepDown x)
+        ∷ as_request (command_request p (StepUpBy (real x)) y)
+        ∷ as_request (command_request p (StepDownBy (real x)) y)
+        ∷ as_request (command_request p (Goto (real x)) y)
+        ∷ as_request (command_request p Relinquish x)
         ∷ []
     unfolding kind_row request_of when◌then◌else◌
     commands_asked = refl

@@ -1,6 +1,6 @@
 -- §1, AS AN ENGINEER READS IT: what makes a body in tags 14, for every body; a tagged duration of FFFFFFFF;
 -- property 0F; that every plain command has a form in tags, of kind 1B, and that it is read alike.
-use Rattle.std.specs.Prelude.{Option, Some, None, Ok, Err}
+use Rattle.std.specs.Prelude.{Option, Some, None, Err}
 use Rattle.lighting_levels.specs.Paper.Choice.{when◌then◌else◌}
 use mathlib.Core.Path.{◌≡◌, refl, sym, ap, ◌∙◌}
 use mathlib.Core.Logic.{◌≢◌}
@@ -35,6 +35,8 @@ use Rattle.lighting_outputs.specs.declared.Operation.{Operation}
 use Rattle.lighting_outputs.specs.declared.Output.{Output}
 use Rattle.lighting_outputs.specs.declared.Property.TheVariants.{LastOperation}
 use Rattle.lighting_outputs.specs.declared.OutputRequest.TheVariants.{Commands}
+use Rattle.lighting_outputs.specs.declared.Request.TheVariants.{ToOutput}
+use Rattle.lighting_outputs.proofs.Rules.CommandRanges.{asked_by_request}
 use Rattle.lighting_frames.specs.declared.TagContent.{TagContent}
 use Rattle.lighting_frames.specs.declared.TagFields.{TagFields}
 use Rattle.lighting_outputs.specs.Paper.Startable.{startable}
@@ -154,11 +156,11 @@ second_byte : (k : Command) → byte_at (body_bytes (command_tags k)) 2 ≡ oper
 unfolding body_bytes zero_filled tag_bytes bytes_from field_bytes octets command_tags tags_of byte_at
 second_byte k = rw (div-one (operation_number k.operation)) (mod-eq_of_lt (omega (arith, number_most k.operation)))
 
-module _ (p : Parameters) (b : Bytes) (o : Octets b) (size : length b ≡ 31) (k : Command) (h : request_of p CommandsTagged b ≡ Ok (Commands k)) where
+module _ (p : Parameters) (b : Bytes) (o : Octets b) (size : length b ≡ 31) (k : Command) (h : request_of p CommandsTagged b ≡ ToOutput (Commands k)) where
   pub tagged_number : operation_number k.operation ≡ byte_at b 15
   tagged_number =
       sym (second_byte k)
-      ∙ ap (λ (x : Bytes). byte_at x 2) (sym (only_written p (drop 13 b) (dropped_octets 13 b o) (omega (arith, length-drop 13 b)) k (unfold request_of in h)))
+      ∙ ap (λ (x : Bytes). byte_at x 2) (sym (only_written p (drop 13 b) (dropped_octets 13 b o) (omega (arith, length-drop 13 b)) k (unfold request_of in asked_by_request (tagged_request p (read_body (drop 13 b))) h)))
       ∙ (unfold byte_at in (get_or-drop 13 b 2 0))
 
   pub tagged_read : (reader : Bool) (t t' : ℕ) (q : Output)

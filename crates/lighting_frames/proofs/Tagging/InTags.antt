@@ -9,6 +9,7 @@ use Prim.Native.Nat.{ℕ, zero, suc, ◌+◌, ◌-◌, ◌≤◌, ◌<◌}
 use native.Mathlib.Omega.{arith}
 use lib.ListN.{length, get_or, take, drop, replicate, length-append, length-take, length-drop, length-replicate, get_or-append, take-append-drop}
 use lib.Seq.{drop_at, take_at, drop-cons, drop-drop, get_or-take, get_or-drop}
+use Rattle.lighting_outputs.specs.Paper.Answers.{as_request}
 use Rattle.lighting_outputs.specs.declared.Parameters.{Parameters}
 use Rattle.lighting_levels.specs.Paper.Field.{byte_at, big_endian}
 use Rattle.lighting_frames.specs.Paper.Kinds.{kind_row, kind_length}
@@ -66,7 +67,7 @@ module _ {action : Action} (b : Bytes) (f : TagFields) (s : Same action b f) whe
   body_of = drop_at common (body_bytes f) 12 length_common
 
   -- and so is what is asked
-  body_asks : (p : Parameters) → tagged_request p (read_body (body_bytes f)) ≡ request_of p action b
+  body_asks : (p : Parameters) → as_request (tagged_request p (read_body (body_bytes f))) ≡ request_of p action b
   unfolding read_body when◌then◌else◌
   body_asks p =
       let n = sizes_written f in

@@ -1,6 +1,6 @@
 -- EVERY COMMAND THAT THE PANEL KEEPS (§1): reading what the writer makes of it gives it back, for every
 -- command that a string of bytes asks for, in whatever form it came.
-use Rattle.std.specs.Prelude.{Option, Some, None, Float, Ok, Err}
+use Rattle.std.specs.Prelude.{Option, Some, None, Float, Ok}
 use Rattle.lighting_levels.specs.Paper.Choice.{when◌then◌else◌}
 use mathlib.Core.Path.{◌≡◌, refl, ap}
 use mathlib.Core.Bool.{true}
@@ -27,12 +27,14 @@ use Rattle.lighting_outputs.specs.declared.Range.{Range}
 use Rattle.lighting_outputs.specs.declared.Range.TheVariants.{Percent, Limit, Amount, Whole, Priority, ReadOnly}
 use Rattle.lighting_frames.specs.declared.TagContent.{TagContent}
 use Rattle.lighting_frames.specs.declared.TagFields.{TagFields}
-use Rattle.lighting_outputs.specs.Paper.Answers.{Request}
+use Rattle.lighting_outputs.specs.Paper.Answers.{as_request}
+use Rattle.lighting_outputs.specs.declared.Request.{Request}
+use Rattle.lighting_outputs.specs.declared.Request.TheVariants.{Refuse, ToOutput}
 use Rattle.lighting_outputs.specs.declared.OutputRequest.TheVariants.{Read, Commands}
 use Rattle.lighting_levels.proofs.Split.{by_bool}
 use Rattle.lighting_frames.proofs.Octets.{dropped_octets, word}
 use Rattle.lighting_outputs.proofs.Patterns.{level_field_kept, amount_field_kept}
-use Rattle.lighting_outputs.proofs.Rules.CommandRanges.{none_met, Taken, command_taken}
+use Rattle.lighting_outputs.proofs.Rules.CommandRanges.{none_met, Taken, asked_by_request, command_taken}
 use Rattle.lighting_frames.proofs.Tagging.Fields.{Fits, AllFit}
 use Rattle.lighting_frames.proofs.Tagging.Bodies.{well_tagged_lem, fields_fit}
 use Rattle.lighting_frames.proofs.Tagging.Commands.{Word, Exact, ExactOperation, lasting_word, reads_written}
@@ -72,38 +74,38 @@ exact_operation p o b r =
 
 -- WHAT A REQUEST ASKS: a command so brought, or none
 abbrev AsksNoCommand : Request → Type 0
-AsksNoCommand r = (k : Command) → r ≡ Ok (Commands k) → ◌≡◌ {A = ℕ} 0 1
+AsksNoCommand r = (k : Command) → r ≡ ToOutput (Commands k) → ◌≡◌ {A = ℕ} 0 1
 
 data Asks (p : Parameters) : Request → Type 0 where
-  command : (o : Operation) (duration : Option ℕ) → Brought o → Word duration → Asks p (command_of p o duration)
+  command : (o : Operation) (duration : Option ℕ) → Brought o → Word duration → Asks p (as_request (command_of p o duration))
   nothing : {r : Request} → AsksNoCommand r → Asks p r
 
 -- kinds 02 to 05 ask for none, and neither does what is refused
-refused_none : (r : Refusal) → AsksNoCommand (Err r)
+refused_none : (r : Refusal) → AsksNoCommand (Refuse r)
 refused_none r = λ k h. cc
 
-reading_none : (n : Property) → AsksNoCommand (Ok (Read n))
+reading_none : (n : Property) → AsksNoCommand (ToOutput (Read n))
 reading_none n = λ k h. cc
 
-level_none : (i : ℕ) (l : Option ℕ) → AsksNoCommand (write_level i l)
+level_none : (i : ℕ) (l : Option ℕ) → AsksNoCommand (as_request (write_level i l))
 unfolding write_level
 level_none i (Some v) = λ k h. cc
 level_none i None = refused_none _
 
-write_none : (n x : ℕ) → AsksNoCommand (write_of n x)
+write_none : (n x : ℕ) → AsksNoCommand (as_request (write_of n x))
 unfolding write_of when◌then◌else◌
 write_none n x = by_bool (is_priority n) (λ e. rw e (level_none _ (level_of (real x)))) (λ e. rw e (refused_none _))
 
-empty_none : (n : ℕ) → AsksNoCommand (empty_of n)
+empty_none : (n : ℕ) → AsksNoCommand (as_request (empty_of n))
 unfolding empty_of when◌then◌else◌
 empty_none n = by_bool (is_priority n) (λ e. rw e (λ k h. cc)) (λ e. rw e (refused_none _))
 
-to_none : (n : Property) (l : Option ℕ) → AsksNoCommand (change_to n l)
+to_none : (n : Property) (l : Option ℕ) → AsksNoCommand (as_request (change_to n l))
 unfolding change_to
 to_none n (Some v) = λ k h. cc
 to_none n None = refused_none _
 
-by_none : (range : Range) (n : Property) (x : ℕ) → AsksNoCommand (change_by range n x)
+by_none : (range : Range) (n : Property) (x : ℕ) → AsksNoCommand (as_request (change_by range n x))
 unfolding change_by when◌then◌else◌
 by_none Percent n x = to_none n (level_of (real x))
 by_none Limit n x = to_none n (limit_of (real x))
@@ -112,13 +114,13 @@ by_none (Whole low high) n x = by_bool (within low high x) (λ e. rw e (λ k h. 
 by_none Priority n x = by_bool (is_priority x) (λ e. rw e (λ k h. cc)) (λ e. rw e (refused_none _))
 by_none ReadOnly n x = refused_none NotWritable
 
-change_none : (p : Parameters) (n : Property) (x : ℕ) → AsksNoCommand (change_of p n x)
+change_none : (p : Parameters) (n : Property) (x : ℕ) → AsksNoCommand (as_request (change_of p n x))
 unfolding change_of
 change_none p n x = by_none (row_of p n) n x
 
 -- the plain kinds
 module _ (p : Parameters) (b : Bytes) (octets : Octets b) where
-  asks_plain : (o : Operation) (at : ℕ) → Brought o → Asks p (command_request p o (big_endian 4 b at))
+  asks_plain : (o : Operation) (at : ℕ) → Brought o → Asks p (as_request (command_request p o (big_endian 4 b at)))
   unfolding command_request
   asks_plain o at k = command o (plain_duration (big_endian 4 b at)) k (lasting_word (big_endian 4 b at) (word b octets at))
 
@@ -146,14 +148,14 @@ brought f fit known =
       fade = timed (fields_of (operation_of f)).fade (held_by f.fade) (held_word whole_octets f.fade (omega arith) fit.1.1.1.1.0) o.fade;
     }
 
-asks_fields : (p : Parameters) (f : TagFields) → AllFit tag_octets (listed f) → holds_at_most 10 f.operation ≡ true → Asks p (tagged_request p (read_fields f))
+asks_fields : (p : Parameters) (f : TagFields) → AllFit tag_octets (listed f) → holds_at_most 10 f.operation ≡ true → Asks p (as_request (tagged_request p (read_fields f)))
 unfolding read_fields tagged_request when◌then◌else◌
 asks_fields p f fit known =
     by_bool (own_tags (tags_of (operation_of f) (time_of f.duration)) f)
     (λ e. rw e (command (operation_of f) (time_of f.duration) (brought f fit known) (time_word_lem f.duration fit.1.1.1.1.1.0)))
     (λ e. rw e (nothing (refused_none _)))
 
-asks_body : (p : Parameters) (body : Bytes) → Octets body → Asks p (tagged_request p (read_body body))
+asks_body : (p : Parameters) (body : Bytes) → Octets body → Asks p (as_request (tagged_request p (read_body body)))
 unfolding read_body tagged_request when◌then◌else◌
 asks_body p body o =
     by_bool (well_tagged body)
@@ -189,11 +191,12 @@ tags_taken : (p : Parameters) (o : Operation) (duration : Option ℕ) (k : Comma
 unfolding command_tags
 tags_taken p o duration k t = rw (t.operation, t.lasting)
 
-again : (p : Parameters) (r : Request) (k : Command) → Asks p r → r ≡ Ok (Commands k) → tagged_request p (read_body (body_bytes (command_tags k))) ≡ Ok (Commands k)
+again : (p : Parameters) (r : Request) (k : Command) → Asks p r → r ≡ ToOutput (Commands k) → tagged_request p (read_body (body_bytes (command_tags k))) ≡ Ok (Commands k)
 unfolding tagged_request
 again p r k (command o duration brought word) h =
-    let t = command_taken p o duration k h in
-    rw (tags_taken p o duration k t, reads_written o duration (exact_operation p o brought t.ranges) word) h
+    let asked_so = asked_by_request (command_of p o duration) h in
+    let t = command_taken p o duration k asked_so in
+    rw (tags_taken p o duration k t, reads_written o duration (exact_operation p o brought t.ranges) word) asked_so
 again p r k (nothing never) h = let z = never k h in absurd (omega arith)
 
 pub gives_back : (p : Parameters) (k : Command) → Kept p k → tagged_request p (read_body (body_bytes (command_tags k))) ≡ Ok (Commands k)

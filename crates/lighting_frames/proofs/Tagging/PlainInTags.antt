@@ -9,6 +9,7 @@ use Prim.Native.Nat.{ℕ, ◌+◌, ◌≤◌}
 use native.Mathlib.Omega.{arith}
 use lib.ListN.{length, drop, take-append-drop}
 use lib.Seq.{drop-drop, drop-length}
+use Rattle.lighting_outputs.specs.Paper.Answers.{as_request}
 use Rattle.lighting_outputs.specs.declared.Parameters.{Parameters}
 use Rattle.lighting_levels.specs.Paper.Level.{real}
 use Rattle.lighting_levels.specs.Paper.Field.{byte_at, big_endian, octets}
@@ -51,7 +52,7 @@ pub record Same (action : Action) (b : Bytes) (f : TagFields) : Type 0 where
   pub high : sizes (listed f) ≤ most_tagged
   pub known : holds_at_most 10 f.operation ≡ true
   pub own : own_tags (tags_of (operation_of f) (time_of f.duration)) f ≡ true
-  pub asks : (p : Parameters) → tagged_request p (read_fields f) ≡ request_of p action b
+  pub asks : (p : Parameters) → as_request (tagged_request p (read_fields f)) ≡ request_of p action b
   pub kind : byte_at b 0 ≡ 0x10 + held_by f.operation
   pub tail : drop 13 b ≡ plain_body f
 
@@ -103,14 +104,14 @@ module _ (b : Bytes) (o : Octets b) where
           rw
           (named, levels, rates, steps, fades, whole_fewest fade, whole_fewest (plain_duration (big_endian 4 b at)))
 
-      fields_asked : (p : Parameters) → tagged_request p (read_fields fields) ≡ command_request p operation (big_endian 4 b at)
+      fields_asked : (p : Parameters) → as_request (tagged_request p (read_fields fields)) ≡ as_request (command_request p operation (big_endian 4 b at))
       unfolding tagged_request command_request read_fields when◌then◌else◌
       fields_asked p = rw (fields_own, named, whole_read (plain_duration (big_endian 4 b at)))
 
     fields_same : (action : Action) → 13 ≤ length b → number ≤ 10 → Fits real_octets level → Fits real_octets rate → Fits real_octets step → Word fade
         → field_size level + field_size rate + field_size step + field_size (whole_tag fade) ≤ 10
         → own_tags (tags_of (operation_of fields) (time_of fields.duration)) fields ≡ true
-        → ((p : Parameters) → tagged_request p (read_fields fields) ≡ request_of p action b)
+        → ((p : Parameters) → as_request (tagged_request p (read_fields fields)) ≡ request_of p action b)
         → byte_at b 0 ≡ 0x10 + number → drop 13 b ≡ plain_body fields → Same action b fields
     fields_same action long n l r s t size own asks kind tail =
         let d = plain_duration (big_endian 4 b at) in

@@ -16,7 +16,9 @@ use Rattle.lighting_frames.specs.declared.Action.{Action}
 use Rattle.lighting_frames.specs.declared.Action.TheVariants.{WritesLevel, EmptiesSlot, WritesProperty, ReadsProperty, Stops, FadesTo, FadesToOver, RampsTo, RampsToAtRate, StepsUp, StepsDown, StepsUpBy, StepsDownBy, GoesTo, Relinquishes, CommandsTagged}
 use Rattle.lighting_frames.specs.declared.Kind.{Kind}
 use Rattle.lighting_frames.specs.declared.Kind.TheVariants.{NoKind, ClockKind, CallKind}
-use Rattle.lighting_outputs.specs.Paper.Answers.{Request}
+use Rattle.lighting_outputs.specs.Paper.Answers.{Asked, as_request}
+use Rattle.lighting_outputs.specs.declared.Request.{Request}
+use Rattle.lighting_outputs.specs.declared.Request.TheVariants.{ToOutput}
 use Rattle.lighting_outputs.specs.declared.OutputRequest.TheVariants.{Read, Commands}
 use Rattle.lighting_frames.specs.declared.Frame.{Frame}
 use Rattle.lighting_frames.specs.declared.Call.{Call}
@@ -37,7 +39,7 @@ Strings l = Every Octets l
 
 -- and in tags (§1): 14 and 15 come before the ranges. 'A tagged duration of FFFFFFFF meets 12': absent is a
 -- missing field there
-unfoldable pub tagged_request : Parameters → Result TaggedCommand Refusal → Request
+unfoldable pub tagged_request : Parameters → Result TaggedCommand Refusal → Asked
 tagged_request p (Err refusal) = Err refusal
 tagged_request p (Ok command) = command_of p command.operation command.duration
 
@@ -49,22 +51,22 @@ abbrev real_at : Bytes → ℕ → Float
 real_at b at = real (big_endian 4 b at)
 
 unfoldable pub request_of : Parameters → Action → Bytes → Request
-request_of p WritesLevel b = write_of (byte_at b 13) (word_at b 14)
-request_of p EmptiesSlot b = empty_of (byte_at b 13)
-request_of p WritesProperty b = change_of p (property_of (byte_at b 13)) (word_at b 14)
-request_of p ReadsProperty b = Ok (Read (property_of (byte_at b 13)))
-request_of p Stops b = command_request p Stop (word_at b 13)
-request_of p FadesTo b = command_request p (FadeTo (real_at b 13)) (word_at b 17)
-request_of p FadesToOver b = command_request p (FadeToOver (real_at b 13) (word_at b 17)) (word_at b 21)
-request_of p RampsTo b = command_request p (RampTo (real_at b 13)) (word_at b 17)
-request_of p RampsToAtRate b = command_request p (RampToAtRate (real_at b 13) (real_at b 17)) (word_at b 21)
-request_of p StepsUp b = command_request p StepUp (word_at b 13)
-request_of p StepsDown b = command_request p StepDown (word_at b 13)
-request_of p StepsUpBy b = command_request p (StepUpBy (real_at b 13)) (word_at b 17)
-request_of p StepsDownBy b = command_request p (StepDownBy (real_at b 13)) (word_at b 17)
-request_of p GoesTo b = command_request p (Goto (real_at b 13)) (word_at b 17)
-request_of p Relinquishes b = command_request p Relinquish (word_at b 13)
-request_of p CommandsTagged b = tagged_request p (read_body (drop 13 b))
+request_of p WritesLevel b = as_request (write_of (byte_at b 13) (word_at b 14))
+request_of p EmptiesSlot b = as_request (empty_of (byte_at b 13))
+request_of p WritesProperty b = as_request (change_of p (property_of (byte_at b 13)) (word_at b 14))
+request_of p ReadsProperty b = ToOutput (Read (property_of (byte_at b 13)))
+request_of p Stops b = as_request (command_request p Stop (word_at b 13))
+request_of p FadesTo b = as_request (command_request p (FadeTo (real_at b 13)) (word_at b 17))
+request_of p FadesToOver b = as_request (command_request p (FadeToOver (real_at b 13) (word_at b 17)) (word_at b 21))
+request_of p RampsTo b = as_request (command_request p (RampTo (real_at b 13)) (word_at b 17))
+request_of p RampsToAtRate b = as_request (command_request p (RampToAtRate (real_at b 13) (real_at b 17)) (word_at b 21))
+request_of p StepsUp b = as_request (command_request p StepUp (word_at b 13))
+request_of p StepsDown b = as_request (command_request p StepDown (word_at b 13))
+request_of p StepsUpBy b = as_request (command_request p (StepUpBy (real_at b 13)) (word_at b 17))
+request_of p StepsDownBy b = as_request (command_request p (StepDownBy (real_at b 13)) (word_at b 17))
+request_of p GoesTo b = as_request (command_request p (Goto (real_at b 13)) (word_at b 17))
+request_of p Relinquishes b = as_request (command_request p Relinquish (word_at b 13))
+request_of p CommandsTagged b = as_request (tagged_request p (read_body (drop 13 b)))
 
 -- THE FRAME that b is, to a table of c outputs. 'Every other kind goes on with station (1), number (4), time
 -- (6), output (1)'
@@ -100,4 +102,4 @@ parse p c b = let row = kind_row (byte_at b 0) in parse_by p c row.length row.ki
 
 -- 'every command the panel keeps' (§1): one that a string of bytes asks for, as a call of some kind
 pub data Kept (p : Parameters) : Command → Type 0 where
-  asked : {command : Command} (action : Action) (b : Bytes) → Octets b → request_of p action b ≡ Ok (Commands command) → Kept p command
+  asked : {command : Command} (action : Action) (b : Bytes) → Octets b → request_of p action b ≡ ToOutput (Commands command) → Kept p command

@@ -1,6 +1,7 @@
 -- §1 BY HAND: commands with their octets, bodies with the refusal that each meets, and a list of frames with
 -- its answers. proofs/Figures.antt computes them.
 use Rattle.std.specs.Prelude.{List, ◌∷◌, ◌++◌, map, [], ℕ, ◌-◌, length, replicate}
+use Rattle.lighting_outputs.specs.Paper.Answers.{as_request}
 use Rattle.lighting_outputs.specs.Paper.Parameters.{document01}
 use Rattle.lighting_levels.specs.Paper.Level.{real}
 use Rattle.lighting_levels.specs.Paper.Field.{octets}
@@ -64,7 +65,7 @@ body tags = sized (length tags) tags
 abbrev met : List Bytes → List Answer
 met bodies =
     map
-    (λ (b : Bytes). (served for_service 0 (fresh_output ∷ []) 0 (tagged_request (document01 1) (read_body b))).answer) bodies
+    (λ (b : Bytes). (served for_service 0 (fresh_output ∷ []) 0 (as_request (tagged_request (document01 1) (read_body b)))).answer) bodies
 
 abbrev pub half : Bytes
 half = 0x1c ∷ octets 4 0x4248_0000

@@ -1,6 +1,6 @@
 -- REFUSAL 11 OF A PROPERTY'S WRITE, over the rows: exactly where the REAL is out of its row's range the
 -- answer is 11, and everything is left.
-use Rattle.std.specs.Prelude.{Option, Some, None, Ok, Err}
+use Rattle.std.specs.Prelude.{Option, Some, None, Err}
 use mathlib.Core.Path.{◌≡◌, refl}
 use mathlib.Core.Bool.{false}
 use Prim.Native.Nat.{ℕ}
@@ -18,7 +18,9 @@ use Rattle.lighting_outputs.specs.declared.Output.{Output}
 use Rattle.lighting_outputs.specs.declared.Property.{Property}
 use Rattle.lighting_outputs.specs.declared.Range.{Range}
 use Rattle.lighting_outputs.specs.declared.Range.TheVariants.{Percent, Limit, Amount, Whole, Priority, ReadOnly}
-use Rattle.lighting_outputs.specs.Paper.Answers.{Request, refusal_number}
+use Rattle.lighting_outputs.specs.Paper.Answers.{as_request, refusal_number}
+use Rattle.lighting_outputs.specs.declared.Request.{Request}
+use Rattle.lighting_outputs.specs.declared.Request.TheVariants.{Refuse, ToOutput}
 use Rattle.lighting_outputs.specs.declared.OutputRequest.TheVariants.{Change}
 use Rattle.lighting_levels.proofs.Split.{by_bool}
 use Rattle.lighting_outputs.proofs.Consequences.Alone.{alone}
@@ -51,7 +53,7 @@ asks_eleven ReadOnly property pattern out = absurd out
 
 module _ (t : ℕ) (o : Output) where
   pub eleven : (p : Parameters) (property : Property) (pattern : ℕ) → Outside (row_of p property) (real pattern)
-      → alone t o (change_of p property pattern) ≡ unchanged o (Refused 11)
+      → alone t o (as_request (change_of p property pattern)) ≡ unchanged o (Refused 11)
   unfolding change_of served unchanged
   eleven p property pattern out = rw (asks_eleven (row_of p property) property pattern out)
 
@@ -60,11 +62,11 @@ module _ (t : ℕ) (o : Output) where
   abbrev Other : Request → Type 0
   Other request = (alone t o request).answer ≡ Refused 11 → ⊥
 
-  refused_other : (refusal : Refusal) → (refusal_number refusal ≡ 11 → ⊥) → Other (Err refusal)
+  refused_other : (refusal : Refusal) → (refusal_number refusal ≡ 11 → ⊥) → Other (Refuse refusal)
   unfolding served
   refused_other refusal differs answer = differs (cc)
 
-  changed_other : (property : Property) (v : ℕ) → Other (Ok (Change property v))
+  changed_other : (property : Property) (v : ℕ) → Other (ToOutput (Change property v))
   unfolding served acted changed_unless unchanged done when◌then◌else◌
   changed_other property v =
       by_bool (min_over_max (settings_with o.settings property v))
@@ -74,12 +76,12 @@ module _ (t : ℕ) (o : Output) where
       (λ test'. rw test' (λ answer. let never : ◌≡◌ {A = ℕ} 16 11 = cc in omega arith))
       (λ test'. rw test' (λ answer. let never : ◌≡◌ {A = ℕ} 0 1 = cc in omega arith))))
 
-  by_level : (property : Property) (level : Option ℕ) → (alone t o (change_to property level)).answer ≡ Refused 11 → level ≡ None
+  by_level : (property : Property) (level : Option ℕ) → (alone t o (as_request (change_to property level))).answer ≡ Refused 11 → level ≡ None
   unfolding change_to
   by_level property (Some v) answer = absurd (changed_other property v answer)
   by_level property None answer = refl
 
-  by_row : (row : Range) (property : Property) (pattern : ℕ) → (alone t o (change_by row property pattern)).answer ≡ Refused 11
+  by_row : (row : Range) (property : Property) (pattern : ℕ) → (alone t o (as_request (change_by row property pattern))).answer ≡ Refused 11
       → Outside row (real pattern)
   unfolding change_by limit_of when◌then◌else◌
   by_row Percent property pattern = λ answer. levels_only (real pattern) (by_level property (level_of (real pattern)) answer)
@@ -98,7 +100,7 @@ module _ (t : ℕ) (o : Output) where
       (λ test. rw test (λ answer. refused_other BadPriority (λ same. omega arith) answer))
   by_row ReadOnly property pattern = λ answer. refused_other NotWritable (λ same. omega arith) answer
 
-  pub only_eleven : (p : Parameters) (property : Property) (pattern : ℕ) → (alone t o (change_of p property pattern)).answer ≡ Refused 11
+  pub only_eleven : (p : Parameters) (property : Property) (pattern : ℕ) → (alone t o (as_request (change_of p property pattern))).answer ≡ Refused 11
       → Outside (row_of p property) (real pattern)
   unfolding change_of
   only_eleven p property pattern answer = by_row (row_of p property) property pattern answer

@@ -27,7 +27,9 @@ use Rattle.lighting_outputs.specs.declared.Property.{Property}
 use Rattle.lighting_outputs.specs.declared.Property.TheVariants.{RelinquishDefault, FadeTime, RampRate, StepIncrement, BlinkEnable, BlinkTime, BlinkWarnDelay, MinValue, MaxValue, CommandPriority, ElapsedActiveTime, BinaryActiveValue, BinaryInactiveValue, Polarity}
 use Rattle.lighting_outputs.specs.declared.Range.{Range}
 use Rattle.lighting_outputs.specs.declared.Range.TheVariants.{Percent, Limit, Amount, Whole, Priority, ReadOnly}
-use Rattle.lighting_outputs.specs.Paper.Answers.{Request, refusal_number}
+use Rattle.lighting_outputs.specs.Paper.Answers.{as_request, refusal_number}
+use Rattle.lighting_outputs.specs.declared.Request.{Request}
+use Rattle.lighting_outputs.specs.declared.Request.TheVariants.{Refuse, ToOutput}
 use Rattle.lighting_outputs.specs.declared.OutputRequest.TheVariants.{Change}
 use Rattle.lighting_outputs.specs.declared.Output.{Output}
 use Rattle.lighting_outputs.specs.declared.Outcome.{Outcome}
@@ -46,7 +48,7 @@ use Rattle.lighting_outputs.specs.declared.refusals.Refusal.{Refusal}
 
 -- kind 04 of property n with x, at t: a frame of kind 04 whose byte 13 is n, and x the four after it
 abbrev pub writes : (p : Parameters) → ℕ → Output → ℕ → ℕ → Outcome
-writes p t o n x = alone t o (change_of p (property_of n) x)
+writes p t o n x = alone t o (as_request (change_of p (property_of n) x))
 
 -- WHAT A PROPERTY READS AS after x was written to it: 01, 08, 09, 17 and 18 as levels, the nearest unit; all
 -- others as they were written
@@ -170,20 +172,20 @@ module _ (p : Parameters) (t t' : ℕ) (o : Output) (x : ℕ) where
           activity = unfold after_events in w.activity;
         }
 
-    changes : (v : ℕ) → WriteRead t' o (changed o u v) n x → After (Ok (Change u v))
+    changes : (v : ℕ) → WriteRead t' o (changed o u v) n x → After (ToOutput (Change u v))
     unfolding served
     changes v w h = rw (write_done t o u v h) (judged_read (changed o u v) w)
 
-    turned_down : (refusal : Refusal) → After (Err refusal)
+    turned_down : (refusal : Refusal) → After (Refuse refusal)
     unfolding acted served unchanged
     turned_down refusal h = refused h
 
-    to_level : (l : Option ℕ) → ((v : ℕ) → l ≡ Some v → WriteRead t' o (changed o u v) n x) → After (change_to u l)
+    to_level : (l : Option ℕ) → ((v : ℕ) → l ≡ Some v → WriteRead t' o (changed o u v) n x) → After (as_request (change_to u l))
     unfolding change_to
     to_level (Some v) f = changes v (f v refl)
     to_level None f = turned_down RealOutOfRange
 
-    by_row : (r : Range) → ((v : ℕ) → Keeps r x v → WriteRead t' o (changed o u v) n x) → After (change_by r u x)
+    by_row : (r : Range) → ((v : ℕ) → Keeps r x v → WriteRead t' o (changed o u v) n x) → After (as_request (change_by r u x))
     unfolding change_by when◌then◌else◌
     by_row Percent f = to_level (level_of (real x)) f
     by_row Limit f = to_level (limit_of (real x)) f
@@ -356,7 +358,7 @@ module _ (p : Parameters) (t t' : ℕ) (o : Output) (x : ℕ) where
     -- a property but 08, 09, 17 and 18: Min stays at most Max, and the inactive value below the active one
     pub accepted : (n : Property) (v : ℕ) → (settings_with o.settings n v).min ≡ o.settings.min → (settings_with o.settings n v).max ≡ o.settings.max
         → (relay_with o.relay n v).active ≡ o.relay.active → (relay_with o.relay n v).inactive ≡ o.relay.inactive
-        → (alone t o (Ok (Change n v))).answer ≡ Done
+        → (alone t o (ToOutput (Change n v))).answer ≡ Done
     unfolding acted served done changed_unless min_over_max inactive_not_below when◌then◌else◌
     accepted n v e f g h =
         rw
@@ -391,11 +393,11 @@ module _ (p : Parameters) (t t' : ℕ) (o : Output) (x : ℕ) where
     elapsed_taken e = rw (in_row 0 0 ElapsedActiveTime (omega arith) (omega arith)) (accepted ElapsedActiveTime x refl refl refl refl)
 
   -- out of a row of whole numbers
-  under_row : (low high : ℕ) (n : Property) → x < low → (alone t o (change_by (Whole low high) n x)).answer ≡ Refused 12
+  under_row : (low high : ℕ) (n : Property) → x < low → (alone t o (as_request (change_by (Whole low high) n x))).answer ≡ Refused 12
   unfolding acted served unchanged change_by within when◌then◌else◌
   under_row low high n h = rw (leb_no {a = low} {b = x} h)
 
-  over_row : (low high : ℕ) (n : Property) → high < x → (alone t o (change_by (Whole low high) n x)).answer ≡ Refused 12
+  over_row : (low high : ℕ) (n : Property) → high < x → (alone t o (as_request (change_by (Whole low high) n x))).answer ≡ Refused 12
   unfolding acted served unchanged change_by within when◌then◌else◌
   over_row low high n k = by_bool (leb low x) (λ e. rw (e, leb_no {a = x} {b = high} k)) (λ e. rw e)
 

@@ -7,7 +7,7 @@ use native.Mathlib.Omega.{arith}
 use lib.Dec.{eqb}
 use Rattle.lighting_levels.specs.Paper.Choice.{when◌then◌else◌}
 use Rattle.lighting_outputs.specs.Paper.Parameters.{Parameters}
-use Rattle.lighting_outputs.specs.Paper.Answers.{level_refusal, refusal_number, Request}
+use Rattle.lighting_outputs.specs.Paper.Answers.{level_refusal, refusal_number, Asked, as_request}
 use Rattle.lighting_levels.specs.Paper.Level.{level_of, amount_of}
 use Rattle.lighting_outputs.specs.Paper.Operations.{fields_of, duration_field}
 use Rattle.lighting_outputs.specs.Paper.Rows.{row_of, within, meets}
@@ -18,7 +18,9 @@ use Rattle.lighting_outputs.specs.declared.Operation.TheVariants.{Stop, FadeTo, 
 use Rattle.lighting_outputs.specs.declared.OperationFields.{OperationFields}
 use Rattle.lighting_outputs.specs.declared.Command.{Command}
 use Rattle.lighting_outputs.specs.declared.Property.TheVariants.{FadeTime}
+use Rattle.lighting_outputs.specs.declared.OutputRequest.{OutputRequest}
 use Rattle.lighting_outputs.specs.declared.OutputRequest.TheVariants.{Commands}
+use Rattle.lighting_outputs.specs.declared.Request.TheVariants.{ToOutput}
 use Rattle.lighting_levels.proofs.Split.{by_bool, by_eq}
 use Rattle.lighting_outputs.proofs.Rules.Tied.{within_of, meets_of}
 use Rattle.lighting_outputs.proofs.Rules.RequestInRange.{OperationInRange, RequestInRange}
@@ -94,7 +96,7 @@ operation_good p (StepDownBy x) h = tt
 operation_good p (Goto x) h = tt
 operation_good p Relinquish h = tt
 
-command_with_duration_good : (p : Parameters) (o : Operation) (duration : Option ℕ) → OperationInRange p o → RequestInRange p (command_with_duration p o duration)
+command_with_duration_good : (p : Parameters) (o : Operation) (duration : Option ℕ) → OperationInRange p o → RequestInRange p (as_request (command_with_duration p o duration))
 unfolding command_with_duration command_lasting when◌then◌else◌
 command_with_duration_good p o (Some d) g =
     by_bool (eqb d 0) (λ e. rw e ((g, tt))) (λ e. rw e
@@ -102,16 +104,16 @@ command_with_duration_good p o (Some d) g =
 command_with_duration_good p o None g = (g, tt)
 
 good_by : (p : Parameters) (refusal : Option Refusal) (o : Operation) (duration : Option ℕ) → Fit refusal → (refusal ≡ None → OperationInRange p o)
-    → RequestInRange p (command_request_by p refusal o duration)
+    → RequestInRange p (as_request (command_request_by p refusal o duration))
 unfolding command_request_by
 good_by p (Some refusal) o duration f g = f
 good_by p None o duration f g = command_with_duration_good p o duration (g refl)
 
-pub command_of_good : (p : Parameters) (o : Operation) (duration : Option ℕ) → RequestInRange p (command_of p o duration)
+pub command_of_good : (p : Parameters) (o : Operation) (duration : Option ℕ) → RequestInRange p (as_request (command_of p o duration))
 unfolding command_of
 command_of_good p o duration = good_by p _ o duration (fields_fit p (fields_of o)) (operation_good p o)
 
-pub command_request_good : (p : Parameters) (o : Operation) (d : ℕ) → RequestInRange p (command_request p o d)
+pub command_request_good : (p : Parameters) (o : Operation) (d : ℕ) → RequestInRange p (as_request (command_request p o d))
 unfolding command_request
 command_request_good p o d = command_of_good p o (plain_duration d)
 
@@ -122,11 +124,16 @@ pub record Taken (p : Parameters) (o : Operation) (duration : Option ℕ) (k : C
   pub operation : k.operation ≡ o
   pub lasting : duration_field k.duration ≡ duration
 
-asked_for : {o : Operation} {d : Duration} (k : Command) → ◌≡◌ {A = Request} (Ok (Commands (record { operation = o; duration = d }))) (Ok (Commands k)) → (k.operation ≡ o) × (duration_field k.duration ≡ duration_field d)
+asked_for : {o : Operation} {d : Duration} (k : Command) → ◌≡◌ {A = Asked} (Ok (Commands (record { operation = o; duration = d }))) (Ok (Commands k)) → (k.operation ≡ o) × (duration_field k.duration ≡ duration_field d)
 asked_for {o} {d} k h = let same : record { operation = o; duration = d } ≡ k = cc in (sym (ap (λ (c : Command). c.operation) same), sym (ap (λ (c : Command). duration_field c.duration) same))
 
-pub refused_never : {refusal : Refusal} (k : Command) → ◌≡◌ {A = Request} (Err refusal) (Ok (Commands k)) → ⊥
+pub refused_never : {refusal : Refusal} (k : Command) → ◌≡◌ {A = Asked} (Err refusal) (Ok (Commands k)) → ⊥
 refused_never k h = let z : ◌≡◌ {A = ℕ} 0 1 = cc in omega arith
+
+-- a request to the output comes of fields that ask just that
+pub asked_by_request : {q : OutputRequest} (asked : Asked) → as_request asked ≡ ToOutput q → asked ≡ Ok q
+asked_by_request (Ok request) h = cc
+asked_by_request (Err refusal) h = cc
 
 durations : (p : Parameters) (o : Operation) (duration : Option ℕ) (k : Command) → command_with_duration p o duration ≡ Ok (Commands k)
     → (k.operation ≡ o) × (duration_field k.duration ≡ duration)

@@ -1,5 +1,5 @@
 -- What a write of a property leaves meets the property's row, whichever it is.
-use Rattle.std.specs.Prelude.{Option, Some, None, Ok}
+use Rattle.std.specs.Prelude.{Option, Some, None}
 use mathlib.Core.Path.{◌≡◌, refl, sym, ap, ◌∙◌}
 use mathlib.Core.Bool.{true, false≢true}
 use mathlib.Core.List.{List, [], ◌∷◌}
@@ -17,6 +17,8 @@ use Rattle.lighting_outputs.specs.declared.Property.TheVariants.{RelinquishDefau
 use Rattle.lighting_outputs.specs.declared.Range.{Range}
 use Rattle.lighting_outputs.specs.declared.Range.TheVariants.{Percent, Limit, Amount, Whole, Priority, ReadOnly}
 use Rattle.lighting_outputs.specs.declared.OutputRequest.TheVariants.{Change}
+use Rattle.lighting_outputs.specs.declared.Request.TheVariants.{ToOutput}
+use Rattle.lighting_outputs.specs.Paper.Answers.{as_request}
 use Rattle.lighting_levels.proofs.Split.{by_bool, by_eq, by_le, by_lt, leb_yes, le_of, eq_of, eqb_hit, eqb_miss}
 use Rattle.lighting_levels.proofs.Ranges.{level_units_lem, limit_units}
 use Rattle.lighting_outputs.proofs.Rules.Facts.{Slot, Meets}
@@ -30,13 +32,13 @@ unfolding is_priority when◌then◌else◌
 priority_of n h = by_eq n 0 (λ z e. absurd (false≢true (rw e at h))) (λ z e. slot_of (n - 1) (rw e at h))
 
 to_good : (p : Parameters) (n : Property) (l : Option ℕ)
-    → ((v : ℕ) → l ≡ Some v → RequestInRange p (Ok (Change n v))) → RequestInRange p (change_to n l)
+    → ((v : ℕ) → l ≡ Some v → RequestInRange p (ToOutput (Change n v))) → RequestInRange p (as_request (change_to n l))
 unfolding change_to
 to_good p n (Some v) f = f v refl
 to_good p n None f = omega arith
 
 row_good : (p : Parameters) (r : Range) (n : Property) (x : ℕ)
-    → ((v : ℕ) → Meets r v → RequestInRange p (Ok (Change n v))) → RequestInRange p (change_by r n x)
+    → ((v : ℕ) → Meets r v → RequestInRange p (ToOutput (Change n v))) → RequestInRange p (as_request (change_by r n x))
 unfolding change_by when◌then◌else◌
 row_good p Percent n x f = to_good p n (level_of (real x)) (λ v e. let u = level_units_lem (real x) v e in f v (record { least = u.0; most = u.1 }))
 row_good p Limit n x f = to_good p n (limit_of (real x)) (λ v e. let u = limit_units (real x) v e in f v (record { least = u.0; most = u.1 }))
@@ -45,7 +47,7 @@ row_good p (Whole low high) n x f = by_bool (within low high x) (λ e. rw e (f x
 row_good p Priority n x f = by_bool (is_priority x) (λ e. rw e (f (x - 1) (priority_of x e))) (λ e. rw e (omega arith))
 row_good p ReadOnly n x f = omega arith
 
-pub change_good : (p : Parameters) (n : Property) (x : ℕ) → RequestInRange p (change_of p n x)
+pub change_good : (p : Parameters) (n : Property) (x : ℕ) → RequestInRange p (as_request (change_of p n x))
 unfolding change_of
 change_good p n x = row_good p (row_of p n) n x (λ v m. m)
 

@@ -1,10 +1,12 @@
 -- 'The answer is Done, a Value of 32 bits, Absent, or Refused with a number': the paper's number and value
 -- for each case of each enum that is an answer.
-use Rattle.std.specs.Prelude.{List, [], ◌∷◌, ℕ, Option, Some, None, Result}
+use Rattle.std.specs.Prelude.{List, [], ◌∷◌, ℕ, Option, Some, None, Result, Ok, Err}
 use Rattle.lighting_levels.specs.Paper.Field.{octets}
 use Rattle.lighting_outputs.specs.declared.Answer.{Answer}
 use Rattle.lighting_outputs.specs.declared.Answer.TheVariants.{Done, Value, Absent, Refused}
 use Rattle.lighting_outputs.specs.declared.OutputRequest.{OutputRequest}
+use Rattle.lighting_outputs.specs.declared.Request.{Request}
+use Rattle.lighting_outputs.specs.declared.Request.TheVariants.{Refuse, ToOutput}
 use Rattle.lighting_outputs.specs.declared.refusals.Refusal.{Refusal}
 use Rattle.lighting_outputs.specs.declared.refusals.Refusal.TheVariants.{BrokenRecords, UnknownKind, WrongLength, UnknownStation, UnknownOutput, OtherBytes, PastNumber, PastTime, NotWritable, BadPriority, RealOutOfRange, WholeOutOfRange, MinOverMax, BadTags, BadFields, RelayNotInOrder, BadParameters, Other}
 
@@ -46,9 +48,13 @@ refusal_number RelayNotInOrder = 16
 refusal_number BadParameters = 17
 refusal_number (Other number) = number
 
--- what a frame asks of its output, or the refusal that its fields meet
-abbrev pub Request : Type 0
-Request = Result OutputRequest Refusal
+-- what a frame asks of its output, or the refusal that its fields meet; and that as a request
+abbrev pub Asked : Type 0
+Asked = Result OutputRequest Refusal
+
+abbrev pub as_request : Asked → Request
+as_request (Ok request) = ToOutput request
+as_request (Err refusal) = Refuse refusal
 
 -- a REAL turned into units: out of range it meets a refusal, else none
 abbrev pub level_refusal : Option ℕ → Option Refusal

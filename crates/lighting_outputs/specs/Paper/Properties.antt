@@ -25,7 +25,7 @@ use Rattle.lighting_outputs.specs.declared.Property.{Property}
 use Rattle.lighting_outputs.specs.declared.Property.TheVariants.{RelinquishDefault, FadeTime, RampRate, StepIncrement, BlinkEnable, BlinkTime, BlinkWarnDelay, MinValue, MaxValue, CommandPriority, ElapsedActiveTime, PresentValue, ProgressValue, InProcess, LastOperation, LastLevel, LastRate, LastStep, LastFadeTime, LastDuration, BinaryActiveValue, BinaryInactiveValue, Polarity, BinaryPresentValue, RelayState, SlotValue, Unknown}
 use Rattle.lighting_outputs.specs.declared.Range.{Range}
 use Rattle.lighting_outputs.specs.declared.Range.TheVariants.{Percent, Limit, Amount, Whole, Priority, ReadOnly}
-use Rattle.lighting_outputs.specs.Paper.Answers.{Request}
+use Rattle.lighting_outputs.specs.Paper.Answers.{Asked}
 use Rattle.lighting_outputs.specs.declared.OutputRequest.TheVariants.{Change}
 use Rattle.lighting_outputs.specs.declared.refusals.Refusal.TheVariants.{NotWritable, BadPriority, RealOutOfRange, WholeOutOfRange}
 
@@ -104,11 +104,11 @@ same one other = eqb (number_of one) (number_of other)
 -- WRITES, kind 04: the value x, of 32 bits, as the property's row (Rows.antt) has it kept, or the refusal
 -- that it meets: 'property unknown, or not writable' is 9, a priority's is 10, a REAL's 11, a whole number's
 -- 12
-unfoldable pub change_to : Property → Option ℕ → Request
+unfoldable pub change_to : Property → Option ℕ → Asked
 change_to property (Some v) = Ok (Change property v)
 change_to property None = Err RealOutOfRange
 
-unfoldable pub change_by : Range → Property → ℕ → Request
+unfoldable pub change_by : Range → Property → ℕ → Asked
 change_by Percent property x = change_to property (level_of (real x))
 change_by Limit property x = change_to property (limit_of (real x))
 change_by Amount property x = when is_amount (real x) then Ok (Change property x) else Err RealOutOfRange
@@ -116,7 +116,7 @@ change_by (Whole low high) property x = when within low high x then Ok (Change p
 change_by Priority property x = when is_priority x then Ok (Change property (x - 1)) else Err BadPriority
 change_by ReadOnly property x = Err NotWritable
 
-unfoldable pub change_of : Parameters → Property → ℕ → Request
+unfoldable pub change_of : Parameters → Property → ℕ → Asked
 change_of p property x = change_by (row_of p property) property x
 
 -- WHAT A WRITE CHANGES: of the settings the property, whose kept value is v. A slot stands in one byte

@@ -11,7 +11,7 @@ use Rattle.lighting_outputs.specs.declared.Duration.TheVariants.{Lasts, Cancels,
 use Rattle.lighting_outputs.specs.declared.Operation.{Operation}
 use Rattle.lighting_outputs.specs.declared.Property.TheVariants.{FadeTime}
 use Rattle.lighting_outputs.specs.declared.OperationFields.{OperationFields}
-use Rattle.lighting_outputs.specs.Paper.Answers.{Request}
+use Rattle.lighting_outputs.specs.Paper.Answers.{Asked}
 use Rattle.lighting_outputs.specs.declared.OutputRequest.TheVariants.{Write, Empty, Commands}
 use Rattle.lighting_outputs.specs.declared.refusals.Refusal.{Refusal}
 use Rattle.lighting_outputs.specs.declared.refusals.Refusal.TheVariants.{BadPriority, RealOutOfRange, WholeOutOfRange}
@@ -42,39 +42,39 @@ fields_refusal p f =
 
 -- 'Duration is milliseconds: 0 cancels, 100 to 86,400,000 sets', up to the set's longest duration (§6); any
 -- other is 12
-unfoldable pub command_lasting : Parameters → Operation → ℕ → Request
+unfoldable pub command_lasting : Parameters → Operation → ℕ → Asked
 command_lasting p operation d =
     when eqb d 0 then Ok (Commands (record { operation = operation; duration = Cancels }))
     else when within 100 p.duration d then Ok (Commands (record { operation = operation; duration = Lasts d }))
     else Err WholeOutOfRange
 
-unfoldable pub command_with_duration : Parameters → Operation → Option ℕ → Request
+unfoldable pub command_with_duration : Parameters → Operation → Option ℕ → Asked
 command_with_duration p operation (Some d) = command_lasting p operation d
 command_with_duration p operation None = Ok (Commands (record { operation = operation; duration = Omitted }))
 
 -- an operation with its duration, whose fields meet a refusal, or none
-unfoldable pub command_request_by : Parameters → Option Refusal → Operation → Option ℕ → Request
+unfoldable pub command_request_by : Parameters → Option Refusal → Operation → Option ℕ → Asked
 command_request_by p (Some refusal) operation duration = Err refusal
 command_request_by p None operation duration = command_with_duration p operation duration
 
 -- THE RANGES OF A COMMAND, in whatever form it came: its fields from left to right, the duration last
-unfoldable pub command_of : Parameters → Operation → Option ℕ → Request
+unfoldable pub command_of : Parameters → Operation → Option ℕ → Asked
 command_of p operation duration = command_request_by p (fields_refusal p (fields_of operation)) operation duration
 
 -- in the plain kinds, 10 to 1A, 'FFFFFFFF means absent'
 unfoldable pub plain_duration : ℕ → Option ℕ
 plain_duration d = when eqb d 0xffff_ffff then None else Some d
 
-unfoldable pub command_request : Parameters → Operation → ℕ → Request
+unfoldable pub command_request : Parameters → Operation → ℕ → Asked
 command_request p operation d = command_of p operation (plain_duration d)
 
 -- KINDS 02 TO 05. Kind 02: priority, then REAL
-unfoldable pub write_level : ℕ → Option ℕ → Request
+unfoldable pub write_level : ℕ → Option ℕ → Asked
 write_level i (Some v) = Ok (Write i v)
 write_level i None = Err RealOutOfRange
 
-unfoldable pub write_of : ℕ → ℕ → Request
+unfoldable pub write_of : ℕ → ℕ → Asked
 write_of n pattern = when is_priority n then write_level (n - 1) (level_of (real pattern)) else Err BadPriority
 
-unfoldable pub empty_of : ℕ → Request
+unfoldable pub empty_of : ℕ → Asked
 empty_of n = when is_priority n then Ok (Empty (n - 1)) else Err BadPriority

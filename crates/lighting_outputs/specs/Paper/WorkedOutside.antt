@@ -2,6 +2,7 @@
 -- output: what kind 04 answers, beside what the papers say. proofs/Figures.antt proves them equal.
 use Rattle.std.specs.Prelude.{List, [], ◌∷◌, map, ℕ, replicate}
 use Rattle.lighting_outputs.specs.Paper.Parameters.{document01}
+use Rattle.lighting_outputs.specs.Paper.Answers.{as_request}
 use Rattle.lighting_outputs.specs.Paper.Properties.{property_of, change_of}
 use Rattle.lighting_outputs.specs.Paper.Fresh.{fresh_output}
 use Rattle.lighting_outputs.specs.Paper.Acting.{served}
@@ -10,7 +11,7 @@ use Rattle.lighting_outputs.specs.declared.Answer.{Answer}
 use Rattle.lighting_outputs.specs.declared.Answer.TheVariants.{Done, Refused}
 
 abbrev write : ℕ → ℕ → Answer
-write n x = (served for_service 0 (fresh_output ∷ []) 0 (change_of (document01 1) (property_of n) x)).answer
+write n x = (served for_service 0 (fresh_output ∷ []) 0 (as_request (change_of (document01 1) (property_of n) x))).answer
 
 -- two NaNs, both infinities, -1, the least negative, the least above 100
 abbrev never : List ℕ

@@ -17,8 +17,10 @@ returns c =
     let within : station_of f < length c.args.stations.now = omega (arith, c.requires.stations_len, named) in
     simp (
       c.judge_by_station.ensures,
+      c.time_of.ensures,
       c.index-at.ensures,
       c.station_of.ensures,
       c.parse-f.ensures,
+      c.parameters_of-parameters.ensures,
     )
     (ap (λ (k : Station). judged_by_station c.args.kept.time k c.args.bytes.now f) (get_or_default c.args.stations.now (station_of f) _ fresh_station within))
