@@ -5,11 +5,44 @@ tools/loops.txt, a line a loop, with its head as it stands in the source and wha
 function may gain no other, and no head may change unseen. A chain of an iterator is a loop, and so is a
 method of a slice or an array that goes over all of it; of an Option's `map` and its like the list says so. A
 function of an impl or a trait goes by the name of its type or trait too. No function may call itself,
-directly or by way of others; a call `x.f(..)` is taken for one of every method `f` that the crates declare.
-Exit status 1 where that fails."""
+directly or by way of others; a call `x.f(..)` or `<T>::f(..)` is taken for one of every method `f` that the
+crates declare, and so is `Trait::f(..)`; `Type::f(..)` for one of the type's own and of every trait's.
+Exit status 1 where that fails.
+
+loops.py --edits FOLDER: each FOLDER/*.edit, in the form of the must-fail edits but with the file's path from the
+top, is laid alone on a copy of the sources, and has to be refused. Exit status 1 where one is not."""
 import glob
+import os
 import re
+import subprocess
 import sys
+import tempfile
+
+
+def refuses(edit):
+    """Whether an edit is refused; a text that does not stand once in its file is a fault too."""
+    said = dict(re.findall(r'^(file|old|new): (.*)$', open(edit).read(), re.M))
+    text = open(said['file']).read()
+    if text.count(said['old']) != 1:
+        return False
+    with tempfile.TemporaryDirectory() as copy:
+        for path in glob.glob('crates/*/src/*.rt') + ['tools/loops.txt']:
+            os.makedirs(os.path.join(copy, os.path.dirname(path)), exist_ok=True)
+            changed = text.replace(said['old'], said['new']) if path == said['file'] else open(path).read()
+            with open(os.path.join(copy, path), 'w') as f:
+                f.write(changed)
+        here = os.path.abspath(__file__)
+        ran = subprocess.run([sys.executable, here], cwd=copy, stdout=subprocess.PIPE, text=True)
+        return ran.returncode == 1 and 'loops.py: FAILED' in ran.stdout
+
+
+if sys.argv[1:2] == ['--edits']:
+    edits = sorted(glob.glob(sys.argv[2] + '/*.edit'))
+    passed = [edit for edit in edits if not refuses(edit)]
+    for edit in passed:
+        print('loops.py: %s is not refused' % edit)
+    print('loops.py: %d of %d edits refused' % (len(edits) - len(passed), len(edits)))
+    sys.exit(1 if passed or not edits else 0)
 
 known = {}
 for line in open('tools/loops.txt'):
@@ -19,7 +52,7 @@ for line in open('tools/loops.txt'):
         known.setdefault(name, []).append(head)
 
 # loops by a keyword, and the methods that go over what they are called on
-LOOPS = re.compile(r'\b((?:while|loop)\b[^;]*?|for\b[^;{]*?\bin\b[^;]*?)\{')
+LOOPS = re.compile(r'\b((?:while|loop)\b[^;]*?|for\b(?:[^;{]*?|[^;\n]*?)\bin\b[^;]*?)\{')
 METHODS = re.compile(
     r'\.(?:(?:all|any|fold|try_fold|reduce|map|flat_map|filter_map|map_while|scan|and_then|filter|for_each'
     r'|try_for_each|sum|product|count|last|nth|position|rposition|find|find_map|partition|skip_while'
@@ -28,7 +61,8 @@ METHODS = re.compile(
     r'|cmp|sort|sort_by|sort_unstable|binary_search)(?:::<[^()]*>)?\(|(?:min|max)\(\))')
 # an impl or a trait with its type's or its own name
 BLOCK = re.compile(
-    r'^(?:pub )?(?:impl(?:<[^{]*?>)? (?:[^{]*? for )?(\w+)|trait (\w+))[^{;]*\{\n(.*?)^\}', re.M | re.S)
+    r'^( *)(?:pub(?:\(\w+\))? )?(?:impl(?:<[^{]*?>)? (?:[^{]*? for )?[^\w{]*(?:\w+::)*(\w+)|trait (\w+))'
+    r'[^{]*\{\n(.*?)^\1\}', re.M | re.S)
 OPENS = {')': '(', ']': '['}
 
 
@@ -45,7 +79,8 @@ def chain_from(text, at):
             while i > 0 and deep:
                 i -= 1
                 deep += (text[i] == closed) - (text[i] == OPENS[closed])
-        while i > 0 and (text[i - 1].isalnum() or text[i - 1] in '_?:>' or text[i - 1] == '<' and '>' in text[i:before]):
+        while i > 0 and (text[i - 1].isalnum() or text[i - 1] in '_?:>'
+                         or text[i - 1] == '<' and '>' in text[i:before]):
             i -= 1
         j = i
         while j > 0 and text[j - 1].isspace():
@@ -55,7 +90,7 @@ def chain_from(text, at):
         i = j - 1
 
 
-bodies, loops, brought, kinds, methods = {}, {}, {}, {}, {}
+bodies, loops, brought, kinds, methods, traits = {}, {}, {}, {}, {}, set()
 for path in sorted(glob.glob('crates/*/src/*.rt')):
     crate = path.split('/')[1]
     text = re.sub(r'//.*', '', open(path).read())
@@ -64,7 +99,8 @@ for path in sorted(glob.glob('crates/*/src/*.rt')):
     for source, rest in re.findall(r'^use (\w+)::([^;]*);', text, re.M):
         for name in re.findall(r'(\w+)(?=\s*[,}]|$)', rest):
             names[name] = source
-    blocks = [(m.start(3), m.end(3), m.group(1) or m.group(2)) for m in BLOCK.finditer(text)]
+    blocks = [(m.start(4), m.end(4), m.group(2) or m.group(3)) for m in BLOCK.finditer(text)]
+    traits |= {m.group(3) for m in BLOCK.finditer(text) if m.group(3)}
     starts = [(m.start(), m.group(1)) for m in re.finditer(r'\bfn (\w+)\s*(?:<[^()]*>)?\s*\(', text)]
     for (at, name), (end, _) in zip(starts, starts[1:] + [(len(text), '')]):
         kind = next((k for a, b, k in blocks if a <= at < b), None)
@@ -93,18 +129,18 @@ for name in sorted(set(loops) | set(known)):
 
 # who calls whom: a call is `f(` or `module::f(` within a crate, `crate::..::f(`, `Type::f(` or `x.f(`
 crates = {name.split('::')[0] for name in bodies}
-types = {kind for kind in kinds.values() if kind}
+types = {kind for kind in kinds.values() if kind} - traits
 calls = {}
 for name, body in bodies.items():
     calls[name] = set()
-    for function in re.findall(r'(?<!\.)\.\s*(\w+)\s*(?:::<[^()]*>)?\(', body):
+    for function in re.findall(r'(?:(?<!\.)\.|>::)\s*(\w+)\s*(?:::<[^()]*>)?\(', body):
         calls[name] |= methods.get(function, set())
     for path, function in re.findall(r'(?<!\w)(?<!(?<!\.)\.)((?:\w+::)*)(\w+)\s*(?:::<[^()]*>)?\(', body):
         owner = path.split('::')[-2] if path else ''
         owner = kinds[name] if owner == 'Self' else owner
-        if owner[:1].isupper():
+        if owner[:1].isupper() or owner in types:
             declared = methods.get(function, ())
-            calls[name] |= {key for key in declared if owner not in types or key.split('::')[-2] == owner}
+            calls[name] |= {key for key in declared if owner not in types or kinds[key] in traits | {owner}}
             continue
         first = path.split('::')[0] or function
         first = brought[name].get(first, first)
