@@ -118,7 +118,7 @@ module _ (p : Parameters) (fade : ℕ) (less : fade ≤ p.fade) where
   -- a write of a property
   fade_time : (x : ℕ)
       → Shortened (within (suc fade) p.fade x) (as_request (change_of p FadeTime x))
-          (as_request (change_of shorter FadeTime x))
+      (as_request (change_of shorter FadeTime x))
   unfolding change_of change_by when◌then◌else◌
   fade_time x =
       by_time x
@@ -172,7 +172,7 @@ module _ (p : Parameters) (fade : ℕ) (less : fade ≤ p.fade) where
 
   same_by : {between : Bool} (operation : Operation) (duration : Option ℕ) (refusal : Option Refusal) → between ≡ false
       → Shortened between (as_request (command_request_by p refusal operation duration))
-          (as_request (command_request_by shorter refusal operation duration))
+      (as_request (command_request_by shorter refusal operation duration))
   unfolding command_request_by
   same_by operation duration (Some refusal) none = refused
   same_by operation duration None none = rw (lasting operation duration) (alike none)

@@ -162,8 +162,8 @@ module _ (p : Parameters) (b : Bytes) (o : Octets b) (size : length b ≡ 31) (k
   tagged_number =
       sym (second_byte k)
       ∙ ap (λ (x : Bytes). byte_at x 2)
-        (sym (only_written p (drop 13 b) (dropped_octets 13 b o) (omega (arith, length-drop 13 b)) k
-          (unfold request_of in asked_by_request (tagged_request p (read_body (drop 13 b))) h)))
+      (sym (only_written p (drop 13 b) (dropped_octets 13 b o) (omega (arith, length-drop 13 b)) k
+      (unfold request_of in asked_by_request (tagged_request p (read_body (drop 13 b))) h)))
       ∙ (unfold byte_at in (get_or-drop 13 b 2 0))
 
   pub tagged_read : (reader : Bool) (t t' : ℕ) (q : Output)

@@ -66,7 +66,7 @@ abbrev met : List Bytes → List Answer
 met bodies =
     map
     (λ (b : Bytes).
-      (served for_service 0 (fresh_output ∷ []) 0 (as_request (tagged_request (document01 1) (read_body b)))).answer)
+    (served for_service 0 (fresh_output ∷ []) 0 (as_request (tagged_request (document01 1) (read_body b)))).answer)
     bodies
 
 abbrev pub half : Bytes
