@@ -38,9 +38,11 @@ use Rattle.lighting_outputs.proofs.Rules.CommandRanges.{asked_by_request, comman
 use Rattle.lighting_outputs.specs.declared.refusals.Refusal.TheVariants.{WrongLength}
 
 -- THE NUMBER. The operation of a command that was taken is the one that its kind says
-command_request_operation : (p : Parameters) (o : Operation) (d : ℕ) (k : Command) → as_request (command_request p o d) ≡ ToOutput (Commands k) → k.operation ≡ o
+command_request_operation : (p : Parameters) (o : Operation) (d : ℕ) (k : Command)
+    → as_request (command_request p o d) ≡ ToOutput (Commands k) → k.operation ≡ o
 unfolding command_request
-command_request_operation p o d k h = (command_taken p o (plain_duration d) k (asked_by_request (command_of p o (plain_duration d)) h)).operation
+command_request_operation p o d k h =
+    (command_taken p o (plain_duration d) k (asked_by_request (command_of p o (plain_duration d)) h)).operation
 
 request_number : (p : Parameters) (action : Action) (b : Bytes) (command : Command) → 0x10 ≤ action_byte action → action_byte action ≤ 0x1a
     → request_of p action b ≡ ToOutput (Commands command) → operation_number command.operation ≡ action_byte action - 0x10
@@ -75,7 +77,8 @@ unfolding call_of
 call_asks p action b call e = rw e
 
 number_by : (p : Parameters) (c l : ℕ) (k : Kind) (b : Bytes) (call : Call) (command : Command)
-    → (kind_row (byte_at b 0)).kind ≡ k → parse_by p c l k b ≡ Ok (Calls call) → call.request ≡ ToOutput (Commands command) → 0x10 ≤ byte_at b 0 → byte_at b 0 ≤ 0x1a
+    → (kind_row (byte_at b 0)).kind ≡ k → parse_by p c l k b ≡ Ok (Calls call)
+    → call.request ≡ ToOutput (Commands command) → 0x10 ≤ byte_at b 0 → byte_at b 0 ≤ 0x1a
     → operation_number command.operation ≡ byte_at b 0 - 0x10
 unfolding parse_by when◌then◌else◌
 number_by p c l NoKind b call command e h r n m = cc

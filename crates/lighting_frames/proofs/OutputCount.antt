@@ -22,7 +22,8 @@ module _ (p : Parameters) (n : ℕ) where
   request action b (none reads carried) = rw (reads p, reads other)
   request action b (refuses reads) = rw (reads p, reads other)
   request action b (writes property x reads carried) = rw (reads p, reads other) (ap as_request (change p n property x))
-  request action b (commands operation duration reads carried) = rw (reads p, reads other) (ap as_request (command p n operation duration))
+  request action b (commands operation duration reads carried) =
+      rw (reads p, reads other) (ap as_request (command p n operation duration))
 
   by_kind : (c size : ℕ) (kind : Kind) (b : Bytes) → (kind_row (byte_at b 0)).kind ≡ kind
       → parse_by other c size kind b ≡ parse_by p c size kind b

@@ -34,7 +34,9 @@ use Rattle.lighting_outputs.specs.declared.refusals.Refusal.{Refusal}
 use Rattle.lighting_outputs.specs.Paper.Answers.{as_request, refusal_number}
 
 -- KINDS 02 TO 05
-level_good : (p : Parameters) (i : ℕ) (l : Option ℕ) → Slot i → ((v : ℕ) → l ≡ Some v → (least_level * min 1 v ≤ v) × (v ≤ greatest_level)) → RequestInRange p (as_request (write_level i l))
+level_good : (p : Parameters) (i : ℕ) (l : Option ℕ) → Slot i
+    → ((v : ℕ) → l ≡ Some v → (least_level * min 1 v ≤ v) × (v ≤ greatest_level))
+    → RequestInRange p (as_request (write_level i l))
 unfolding write_level
 level_good p i (Some v) g f = let r = f v refl in (g, record { least = r.0; most = r.1 })
 level_good p i None g f = omega arith

@@ -48,7 +48,8 @@ pub data TakesFade : OutputRequest → Type 0 where
 pub data Shortened (between : Bool) : Request → Request → Type 0 where
   alike : {request : Request} → between ≡ false → Shortened between request request
   refused : {refusal : Refusal} → Shortened between (Refuse refusal) (Refuse refusal)
-  cut : {request : OutputRequest} → between ≡ true → TakesFade request → Shortened between (ToOutput request) (Refuse WholeOutOfRange)
+  cut : {request : OutputRequest} → between ≡ true → TakesFade request
+      → Shortened between (ToOutput request) (Refuse WholeOutOfRange)
 
 -- a conjunction whose parts imply those of another
 also_then : {a a' b b' : Bool} → (a ≡ true → a' ≡ true) → (b ≡ true → b' ≡ true) → (a also b) ≡ true → (a' also b') ≡ true
@@ -115,7 +116,9 @@ module _ (p : Parameters) (fade : ℕ) (less : fade ≤ p.fade) where
       (λ past highest. outside (rw (leb_yes {a = suc fade} {b = x} (omega arith), highest)) (rw (high, highest))))
 
   -- a write of a property
-  fade_time : (x : ℕ) → Shortened (within (suc fade) p.fade x) (as_request (change_of p FadeTime x)) (as_request (change_of shorter FadeTime x))
+  fade_time : (x : ℕ)
+      → Shortened (within (suc fade) p.fade x) (as_request (change_of p FadeTime x))
+      (as_request (change_of shorter FadeTime x))
   unfolding change_of change_by when◌then◌else◌
   fade_time x =
       by_time x
@@ -168,7 +171,8 @@ module _ (p : Parameters) (fade : ℕ) (less : fade ≤ p.fade) where
   taken between h operation None = cut h commanded
 
   same_by : {between : Bool} (operation : Operation) (duration : Option ℕ) (refusal : Option Refusal) → between ≡ false
-      → Shortened between (as_request (command_request_by p refusal operation duration)) (as_request (command_request_by shorter refusal operation duration))
+      → Shortened between (as_request (command_request_by p refusal operation duration))
+      (as_request (command_request_by shorter refusal operation duration))
   unfolding command_request_by
   same_by operation duration (Some refusal) none = refused
   same_by operation duration None none = rw (lasting operation duration) (alike none)

@@ -158,11 +158,13 @@ module _ (p : Parameters) (c : ℕ) (b : Bytes) where
 
 -- byte 13 is the priority, and kind 02's REAL follows it
 module _ (p : Parameters) (b : Bytes) where
-  pub write_slot : (i v : ℕ) → Slot i → byte_at b 13 ≡ suc i → level_of (real (big_endian 4 b 14)) ≡ Some v → asked p 2 b ≡ ToOutput (Write i v)
+  pub write_slot : (i v : ℕ) → Slot i → byte_at b 13 ≡ suc i → level_of (real (big_endian 4 b 14)) ≡ Some v
+      → asked p 2 b ≡ ToOutput (Write i v)
   unfolding kind_row request_of write_of write_level when◌then◌else◌
   write_slot i v k n e = let z : suc i - 1 ≡ i = omega arith in rw (n, priority_yes i k, e, z)
 
-  pub write_real : (i : ℕ) → Slot i → byte_at b 13 ≡ suc i → level_of (real (big_endian 4 b 14)) ≡ None → asked p 2 b ≡ Refuse RealOutOfRange
+  pub write_real : (i : ℕ) → Slot i → byte_at b 13 ≡ suc i → level_of (real (big_endian 4 b 14)) ≡ None
+      → asked p 2 b ≡ Refuse RealOutOfRange
   unfolding kind_row request_of write_of write_level when◌then◌else◌
   write_real i k n e = rw (n, priority_yes i k, e)
 
@@ -194,6 +196,7 @@ pub read_asked : (p : Parameters) (b : Bytes) → asked p 5 b ≡ ToOutput (Read
 unfolding kind_row request_of when◌then◌else◌
 read_asked p b = refl
 
-pub write_asked : (p : Parameters) (b : Bytes) → asked p 4 b ≡ as_request (change_of p (property_of (byte_at b 13)) (big_endian 4 b 14))
+pub write_asked : (p : Parameters) (b : Bytes)
+    → asked p 4 b ≡ as_request (change_of p (property_of (byte_at b 13)) (big_endian 4 b 14))
 unfolding kind_row request_of when◌then◌else◌
 write_asked p b = refl

@@ -70,7 +70,9 @@ back k d =
 
 module _ (p : Parameters) (t t' : ℕ) (o : Output) where
   -- an operation whose fields are in range, and any
-  of_command_with_duration : (k : Operation) (d : ℕ) → (alone t o (as_request (command_with_duration p k (plain_duration d)))).answer ≡ Done → last t' (alone t o (as_request (command_with_duration p k (plain_duration d)))).output ≡ back k d
+  of_command_with_duration : (k : Operation) (d : ℕ)
+      → (alone t o (as_request (command_with_duration p k (plain_duration d)))).answer ≡ Done
+      → last t' (alone t o (as_request (command_with_duration p k (plain_duration d)))).output ≡ back k d
   unfolding acted served done unchanged after_events plain_duration command_with_duration command_lasting commanded commanded_from with_command property_of numbered read_property last_duration when◌then◌else◌
   of_command_with_duration k d =
       by_eq d 0xffff_ffff
@@ -88,7 +90,8 @@ module _ (p : Parameters) (t t' : ℕ) (o : Output) where
   by_met None k d l f h = of_command_with_duration k d h ∙ f refl
 
   of_command_request : (k : Operation) (d : ℕ) (l : List Answer) → (fields_refusal p (fields_of k) ≡ None → back k d ≡ l)
-      → (alone t o (as_request (command_request p k d))).answer ≡ Done → last t' (alone t o (as_request (command_request p k d))).output ≡ l
+      → (alone t o (as_request (command_request p k d))).answer ≡ Done
+      → last t' (alone t o (as_request (command_request p k d))).output ≡ l
   unfolding command_request command_of
   of_command_request k d l f = by_met (fields_refusal p (fields_of k)) k d l f
 

@@ -156,11 +156,14 @@ second_byte : (k : Command) → byte_at (body_bytes (command_tags k)) 2 ≡ oper
 unfolding body_bytes zero_filled tag_bytes bytes_from field_bytes octets command_tags tags_of byte_at
 second_byte k = rw (div-one (operation_number k.operation)) (mod-eq_of_lt (omega (arith, number_most k.operation)))
 
-module _ (p : Parameters) (b : Bytes) (o : Octets b) (size : length b ≡ 31) (k : Command) (h : request_of p CommandsTagged b ≡ ToOutput (Commands k)) where
+module _ (p : Parameters) (b : Bytes) (o : Octets b) (size : length b ≡ 31) (k : Command)
+    (h : request_of p CommandsTagged b ≡ ToOutput (Commands k)) where
   pub tagged_number : operation_number k.operation ≡ byte_at b 15
   tagged_number =
       sym (second_byte k)
-      ∙ ap (λ (x : Bytes). byte_at x 2) (sym (only_written p (drop 13 b) (dropped_octets 13 b o) (omega (arith, length-drop 13 b)) k (unfold request_of in asked_by_request (tagged_request p (read_body (drop 13 b))) h)))
+      ∙ ap (λ (x : Bytes). byte_at x 2)
+      (sym (only_written p (drop 13 b) (dropped_octets 13 b o) (omega (arith, length-drop 13 b)) k
+      (unfold request_of in asked_by_request (tagged_request p (read_body (drop 13 b))) h)))
       ∙ (unfold byte_at in (get_or-drop 13 b 2 0))
 
   pub tagged_read : (reader : Bool) (t t' : ℕ) (q : Output)

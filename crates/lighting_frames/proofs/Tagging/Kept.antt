@@ -148,7 +148,8 @@ brought f fit known =
       fade = timed (fields_of (operation_of f)).fade (held_by f.fade) (held_word whole_octets f.fade (omega arith) fit.1.1.1.1.0) o.fade;
     }
 
-asks_fields : (p : Parameters) (f : TagFields) → AllFit tag_octets (listed f) → holds_at_most 10 f.operation ≡ true → Asks p (as_request (tagged_request p (read_fields f)))
+asks_fields : (p : Parameters) (f : TagFields) → AllFit tag_octets (listed f)
+    → holds_at_most 10 f.operation ≡ true → Asks p (as_request (tagged_request p (read_fields f)))
 unfolding read_fields tagged_request when◌then◌else◌
 asks_fields p f fit known =
     by_bool (own_tags (tags_of (operation_of f) (time_of f.duration)) f)
@@ -191,7 +192,8 @@ tags_taken : (p : Parameters) (o : Operation) (duration : Option ℕ) (k : Comma
 unfolding command_tags
 tags_taken p o duration k t = rw (t.operation, t.lasting)
 
-again : (p : Parameters) (r : Request) (k : Command) → Asks p r → r ≡ ToOutput (Commands k) → tagged_request p (read_body (body_bytes (command_tags k))) ≡ Ok (Commands k)
+again : (p : Parameters) (r : Request) (k : Command) → Asks p r → r ≡ ToOutput (Commands k)
+    → tagged_request p (read_body (body_bytes (command_tags k))) ≡ Ok (Commands k)
 unfolding tagged_request
 again p r k (command o duration brought word) h =
     let asked_so = asked_by_request (command_of p o duration) h in

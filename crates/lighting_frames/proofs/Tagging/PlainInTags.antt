@@ -104,7 +104,9 @@ module _ (b : Bytes) (o : Octets b) where
           rw
           (named, levels, rates, steps, fades, whole_fewest fade, whole_fewest (plain_duration (big_endian 4 b at)))
 
-      fields_asked : (p : Parameters) → as_request (tagged_request p (read_fields fields)) ≡ as_request (command_request p operation (big_endian 4 b at))
+      fields_asked : (p : Parameters)
+          → as_request (tagged_request p (read_fields fields))
+          ≡ as_request (command_request p operation (big_endian 4 b at))
       unfolding tagged_request command_request read_fields when◌then◌else◌
       fields_asked p = rw (fields_own, named, whole_read (plain_duration (big_endian 4 b at)))
 

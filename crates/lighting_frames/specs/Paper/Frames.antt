@@ -102,4 +102,5 @@ parse p c b = let row = kind_row (byte_at b 0) in parse_by p c row.length row.ki
 
 -- 'every command the panel keeps' (§1): one that a string of bytes asks for, as a call of some kind
 pub data Kept (p : Parameters) : Command → Type 0 where
-  asked : {command : Command} (action : Action) (b : Bytes) → Octets b → request_of p action b ≡ ToOutput (Commands command) → Kept p command
+  asked : {command : Command} (action : Action) (b : Bytes) → Octets b
+      → request_of p action b ≡ ToOutput (Commands command) → Kept p command

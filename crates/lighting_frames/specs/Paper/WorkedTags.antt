@@ -65,7 +65,9 @@ body tags = sized (length tags) tags
 abbrev met : List Bytes → List Answer
 met bodies =
     map
-    (λ (b : Bytes). (served for_service 0 (fresh_output ∷ []) 0 (as_request (tagged_request (document01 1) (read_body b)))).answer) bodies
+    (λ (b : Bytes).
+    (served for_service 0 (fresh_output ∷ []) 0 (as_request (tagged_request (document01 1) (read_body b)))).answer)
+    bodies
 
 abbrev pub half : Bytes
 half = 0x1c ∷ octets 4 0x4248_0000

@@ -302,7 +302,9 @@ duration_lasts p allowed t d o k h m =
     rw (eqb_miss {a = d} {b = 0xffff_ffff} (omega (arith, (startable_of p allowed).duration)), eqb_miss {a = d} {b = 0} (omega arith), leb_yes {a = 100} {b = d} h, leb_yes {a = d} {b = p.duration} m)
 
 pub duration_empties : (p : Parameters) → startable p ≡ true → {t t' : ℕ} {o' : Output} (o : Output) (d : ℕ) (k : Operation) → 100 ≤ d → d ≤ p.duration
-    → Sound p t (alone t o (as_request (command_with_duration p k (plain_duration d)))).output → Life p t (alone t o (as_request (command_with_duration p k (plain_duration d)))).output t' o' → suc t' ≡ t + d
+    → Sound p t (alone t o (as_request (command_with_duration p k (plain_duration d)))).output
+    → Life p t (alone t o (as_request (command_with_duration p k (plain_duration d)))).output t' o'
+    → suc t' ≡ t + d
     → (slot (tick t' o').slots o.settings.slot ≡ None) × ((tick t' o').timer ≡ None)
 duration_empties p allowed {t} {t'} {o'} o d k h m sound l e =
     expires p t' o.settings.slot o' (life_sound p l sound)
@@ -310,14 +312,17 @@ duration_empties p allowed {t} {t'} {o'} o d k h m sound l e =
     ∙ ap (λ (z : ℕ). running o.settings.slot z) (sym e))
 
 -- 0 cancels, and what was cancelled never falls due
-pub duration_cancels : (p : Parameters) {t t' : ℕ} {o' : Output} (o : Output) (k : Operation) → Life p t (alone t o (as_request (command_with_duration p k (plain_duration 0)))).output t' o' → o'.timer ≡ None
+pub duration_cancels : (p : Parameters) {t t' : ℕ} {o' : Output} (o : Output) (k : Operation)
+    → Life p t (alone t o (as_request (command_with_duration p k (plain_duration 0)))).output t' o'
+    → o'.timer ≡ None
 duration_cancels p {t} o k l = stays_off p l off
   where
     off : (alone t o (as_request (command_with_duration p k (plain_duration 0)))).output.timer ≡ None
     off = unfold acted served done after_events plain_duration command_with_duration command_lasting commanded commanded_from with_command timed when◌then◌else◌ in refl
 
 -- FFFFFFFF leaves it
-pub duration_absent : (p : Parameters) (t : ℕ) (o : Output) (k : Operation) → (alone t o (as_request (command_with_duration p k (plain_duration 0xffff_ffff)))).output.timer ≡ o.timer
+pub duration_absent : (p : Parameters) (t : ℕ) (o : Output) (k : Operation)
+    → (alone t o (as_request (command_with_duration p k (plain_duration 0xffff_ffff)))).output.timer ≡ o.timer
 unfolding acted served done after_events plain_duration command_with_duration command_lasting commanded commanded_from with_command timed when◌then◌else◌
 duration_absent p t o k = refl
 

@@ -76,12 +76,14 @@ module _ (t : ℕ) (o : Output) where
       (λ test'. rw test' (λ answer. let never : ◌≡◌ {A = ℕ} 16 11 = cc in omega arith))
       (λ test'. rw test' (λ answer. let never : ◌≡◌ {A = ℕ} 0 1 = cc in omega arith))))
 
-  by_level : (property : Property) (level : Option ℕ) → (alone t o (as_request (change_to property level))).answer ≡ Refused 11 → level ≡ None
+  by_level : (property : Property) (level : Option ℕ)
+      → (alone t o (as_request (change_to property level))).answer ≡ Refused 11 → level ≡ None
   unfolding change_to
   by_level property (Some v) answer = absurd (changed_other property v answer)
   by_level property None answer = refl
 
-  by_row : (row : Range) (property : Property) (pattern : ℕ) → (alone t o (as_request (change_by row property pattern))).answer ≡ Refused 11
+  by_row : (row : Range) (property : Property) (pattern : ℕ)
+      → (alone t o (as_request (change_by row property pattern))).answer ≡ Refused 11
       → Outside row (real pattern)
   unfolding change_by limit_of when◌then◌else◌
   by_row Percent property pattern = λ answer. levels_only (real pattern) (by_level property (level_of (real pattern)) answer)
@@ -100,7 +102,8 @@ module _ (t : ℕ) (o : Output) where
       (λ test. rw test (λ answer. refused_other BadPriority (λ same. omega arith) answer))
   by_row ReadOnly property pattern = λ answer. refused_other NotWritable (λ same. omega arith) answer
 
-  pub only_eleven : (p : Parameters) (property : Property) (pattern : ℕ) → (alone t o (as_request (change_of p property pattern))).answer ≡ Refused 11
+  pub only_eleven : (p : Parameters) (property : Property) (pattern : ℕ)
+      → (alone t o (as_request (change_of p property pattern))).answer ≡ Refused 11
       → Outside (row_of p property) (real pattern)
   unfolding change_of
   only_eleven p property pattern answer = by_row (row_of p property) property pattern answer

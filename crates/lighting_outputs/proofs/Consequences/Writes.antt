@@ -393,11 +393,13 @@ module _ (p : Parameters) (t t' : ℕ) (o : Output) (x : ℕ) where
     elapsed_taken e = rw (in_row 0 0 ElapsedActiveTime (omega arith) (omega arith)) (accepted ElapsedActiveTime x refl refl refl refl)
 
   -- out of a row of whole numbers
-  under_row : (low high : ℕ) (n : Property) → x < low → (alone t o (as_request (change_by (Whole low high) n x))).answer ≡ Refused 12
+  under_row : (low high : ℕ) (n : Property) → x < low
+      → (alone t o (as_request (change_by (Whole low high) n x))).answer ≡ Refused 12
   unfolding acted served unchanged change_by within when◌then◌else◌
   under_row low high n h = rw (leb_no {a = low} {b = x} h)
 
-  over_row : (low high : ℕ) (n : Property) → high < x → (alone t o (as_request (change_by (Whole low high) n x))).answer ≡ Refused 12
+  over_row : (low high : ℕ) (n : Property) → high < x
+      → (alone t o (as_request (change_by (Whole low high) n x))).answer ≡ Refused 12
   unfolding acted served unchanged change_by within when◌then◌else◌
   over_row low high n k = by_bool (leb low x) (λ e. rw (e, leb_no {a = x} {b = high} k)) (λ e. rw e)
 

@@ -96,7 +96,8 @@ operation_good p (StepDownBy x) h = tt
 operation_good p (Goto x) h = tt
 operation_good p Relinquish h = tt
 
-command_with_duration_good : (p : Parameters) (o : Operation) (duration : Option ℕ) → OperationInRange p o → RequestInRange p (as_request (command_with_duration p o duration))
+command_with_duration_good : (p : Parameters) (o : Operation) (duration : Option ℕ) → OperationInRange p o
+    → RequestInRange p (as_request (command_with_duration p o duration))
 unfolding command_with_duration command_lasting when◌then◌else◌
 command_with_duration_good p o (Some d) g =
     by_bool (eqb d 0) (λ e. rw e ((g, tt))) (λ e. rw e
@@ -109,7 +110,8 @@ unfolding command_request_by
 good_by p (Some refusal) o duration f g = f
 good_by p None o duration f g = command_with_duration_good p o duration (g refl)
 
-pub command_of_good : (p : Parameters) (o : Operation) (duration : Option ℕ) → RequestInRange p (as_request (command_of p o duration))
+pub command_of_good : (p : Parameters) (o : Operation) (duration : Option ℕ)
+    → RequestInRange p (as_request (command_of p o duration))
 unfolding command_of
 command_of_good p o duration = good_by p _ o duration (fields_fit p (fields_of o)) (operation_good p o)
 
@@ -124,7 +126,9 @@ pub record Taken (p : Parameters) (o : Operation) (duration : Option ℕ) (k : C
   pub operation : k.operation ≡ o
   pub lasting : duration_field k.duration ≡ duration
 
-asked_for : {o : Operation} {d : Duration} (k : Command) → ◌≡◌ {A = Asked} (Ok (Commands (record { operation = o; duration = d }))) (Ok (Commands k)) → (k.operation ≡ o) × (duration_field k.duration ≡ duration_field d)
+asked_for : {o : Operation} {d : Duration} (k : Command)
+    → ◌≡◌ {A = Asked} (Ok (Commands (record { operation = o; duration = d }))) (Ok (Commands k))
+    → (k.operation ≡ o) × (duration_field k.duration ≡ duration_field d)
 asked_for {o} {d} k h = let same : record { operation = o; duration = d } ≡ k = cc in (sym (ap (λ (c : Command). c.operation) same), sym (ap (λ (c : Command). duration_field c.duration) same))
 
 pub refused_never : {refusal : Refusal} (k : Command) → ◌≡◌ {A = Asked} (Err refusal) (Ok (Commands k)) → ⊥
