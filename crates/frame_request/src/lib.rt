@@ -13,7 +13,9 @@ ghost use Rattle.lighting_frames.specs.Paper.Frames.{request_of};
 use command_parse::{command_request, tagged_request};
 use frame_field::{byte_at, from_on, word32_at};
 use lighting_frames::Action;
-use lighting_outputs::{Asked, Operation, OutputRequest, Parameters, Refusal, Request};
+use lighting_outputs::{
+    Asked, Operation, OutputRequest, PanelRequest, Parameters, Refusal, Request, as_request,
+};
 use property_write::property_of;
 use property_write::values::slot_of;
 
@@ -63,7 +65,7 @@ fn change_of(parameters: Parameters, n: u8, x: u32) -> Asked
 fn command_at(parameters: Parameters, operation: Operation, b: &[u8], at: usize) -> Request
     ensures { result ≡ as_request (command_request parameters operation (big_endian 4 b.now at)) }
 {
-    Request::from(command_request(parameters, operation, word32_at(b, at)))
+    as_request(command_request(parameters, operation, word32_at(b, at)))
 }
 
 fn real_at(b: &[u8], at: usize) -> f32
@@ -77,13 +79,13 @@ pub fn request_of(parameters: Parameters, action: Action, b: &[u8]) -> Request
     ensures { result ≡ request_of parameters action b.now }
 {
     match action {
-        Action::WritesLevel => Request::from(write_of(byte_at(b, 13), word32_at(b, 14))),
-        Action::EmptiesSlot => Request::from(empty_of(byte_at(b, 13))),
+        Action::WritesLevel => as_request(write_of(byte_at(b, 13), word32_at(b, 14))),
+        Action::EmptiesSlot => as_request(empty_of(byte_at(b, 13))),
         Action::WritesProperty => {
-            Request::from(change_of(parameters, byte_at(b, 13), word32_at(b, 14)))
+            as_request(change_of(parameters, byte_at(b, 13), word32_at(b, 14)))
         }
         Action::ReadsProperty => {
-            Request::ToOutput(OutputRequest::Read(property_of(byte_at(b, 13))))
+            Ok(PanelRequest::ToOutput(OutputRequest::Read(property_of(byte_at(b, 13)))))
         }
         Action::Stops => command_at(parameters, Operation::Stop, b, 13),
         Action::FadesTo => command_at(parameters, Operation::FadeTo(real_at(b, 13)), b, 17),
@@ -106,7 +108,7 @@ pub fn request_of(parameters: Parameters, action: Action, b: &[u8]) -> Request
         Action::StepsDownBy => command_at(parameters, Operation::StepDownBy(real_at(b, 13)), b, 17),
         Action::GoesTo => command_at(parameters, Operation::Goto(real_at(b, 13)), b, 17),
         Action::Relinquishes => command_at(parameters, Operation::Relinquish, b, 13),
-        Action::CommandsTagged => Request::from(tagged_request(
+        Action::CommandsTagged => as_request(tagged_request(
             parameters,
             tag_reading::read_body(from_on(b, 13)),
         )),

@@ -11,9 +11,8 @@ use Rattle.lighting_frames.specs.declared.Kind.{Kind}
 use Rattle.lighting_frames.specs.declared.TagContent.{TagContent}
 use Rattle.lighting_frames.specs.declared.TagFields.{TagFields}
 use Rattle.lighting_frames.specs.declared.TaggedCommand.{TaggedCommand}
-use Rattle.lighting_outputs.specs.Paper.Answers.{Asked}
+use Rattle.lighting_outputs.specs.Paper.Answers.{Asked, Request}
 use Rattle.lighting_outputs.specs.declared.Parameters.{Parameters}
-use Rattle.lighting_outputs.specs.declared.Request.{Request}
 use Rattle.lighting_outputs.specs.declared.refusals.Refusal.{Refusal}
 use Rattle.std.specs.Prelude.{Float, Option, Result}
 use mathlib.Core.Bool.{Bool}

@@ -31,7 +31,7 @@ use Rattle.lighting_outputs.specs.declared.Answer.TheVariants.{Value}
 use Rattle.lighting_outputs.specs.declared.Output.{Output}
 use Rattle.lighting_outputs.specs.Paper.Answers.{as_request}
 use Rattle.lighting_outputs.specs.declared.OutputRequest.TheVariants.{Commands}
-use Rattle.lighting_outputs.specs.declared.Request.TheVariants.{ToOutput}
+use Rattle.lighting_outputs.specs.declared.PanelRequest.TheVariants.{ToOutput}
 use Rattle.lighting_levels.proofs.Split.{by_bool}
 use Rattle.lighting_frames.proofs.KindTable.{action_byte, kind_byte}
 use Rattle.lighting_outputs.proofs.Rules.CommandRanges.{asked_by_request, command_taken}
@@ -39,13 +39,14 @@ use Rattle.lighting_outputs.specs.declared.refusals.Refusal.TheVariants.{WrongLe
 
 -- THE NUMBER. The operation of a command that was taken is the one that its kind says
 command_request_operation : (p : Parameters) (o : Operation) (d : ℕ) (k : Command)
-    → as_request (command_request p o d) ≡ ToOutput (Commands k) → k.operation ≡ o
+    → as_request (command_request p o d) ≡ Ok (ToOutput (Commands k)) → k.operation ≡ o
 unfolding command_request
 command_request_operation p o d k h =
     (command_taken p o (plain_duration d) k (asked_by_request (command_of p o (plain_duration d)) h)).operation
 
 request_number : (p : Parameters) (action : Action) (b : Bytes) (command : Command) → 0x10 ≤ action_byte action → action_byte action ≤ 0x1a
-    → request_of p action b ≡ ToOutput (Commands command) → operation_number command.operation ≡ action_byte action - 0x10
+    → request_of p action b ≡ Ok (ToOutput (Commands command))
+    → operation_number command.operation ≡ action_byte action - 0x10
 unfolding request_of operation_number
 request_number p WritesLevel b command k m h = absurd (omega arith)
 request_number p EmptiesSlot b command k m h = absurd (omega arith)
@@ -78,7 +79,7 @@ call_asks p action b call e = rw e
 
 number_by : (p : Parameters) (c l : ℕ) (k : Kind) (b : Bytes) (call : Call) (command : Command)
     → (kind_row (byte_at b 0)).kind ≡ k → parse_by p c l k b ≡ Ok (Calls call)
-    → call.request ≡ ToOutput (Commands command) → 0x10 ≤ byte_at b 0 → byte_at b 0 ≤ 0x1a
+    → call.request ≡ Ok (ToOutput (Commands command)) → 0x10 ≤ byte_at b 0 → byte_at b 0 ≤ 0x1a
     → operation_number command.operation ≡ byte_at b 0 - 0x10
 unfolding parse_by when◌then◌else◌
 number_by p c l NoKind b call command e h r n m = cc
@@ -105,7 +106,8 @@ number_by p c l (CallKind action) b call command e h r n m = by_bool (eqb (lengt
 -- '0F last operation (kind minus 10)': a frame of kind 10 to 1A that is taken as a command has the operation
 -- whose number is its kind less 10
 pub kind_number : (p : Parameters) (c : ℕ) (b : Bytes) (call : Call) (command : Command)
-    → parse p c b ≡ Ok (Calls call) → call.request ≡ ToOutput (Commands command) → 0x10 ≤ byte_at b 0 → byte_at b 0 ≤ 0x1a
+    → parse p c b ≡ Ok (Calls call) → call.request ≡ Ok (ToOutput (Commands command))
+    → 0x10 ≤ byte_at b 0 → byte_at b 0 ≤ 0x1a
     → operation_number command.operation ≡ byte_at b 0 - 0x10
 unfolding parse
 kind_number p c b call command h r n m = number_by p c _ _ b call command refl h r n m
@@ -113,7 +115,8 @@ kind_number p c b call command h r n m = number_by p c _ _ b call command refl h
 -- and that is what property 0F of its output reads from then on, to a tenant too (§8)
 pub kind_read : (p : Parameters) (c : ℕ) (b : Bytes) (call : Call) (command : Command) (tenant reader : Bool)
     (t t' : ℕ) (o : Output)
-    → parse p c b ≡ Ok (Calls call) → call.request ≡ ToOutput (Commands command) → 0x10 ≤ byte_at b 0 → byte_at b 0 ≤ 0x1a
+    → parse p c b ≡ Ok (Calls call) → call.request ≡ Ok (ToOutput (Commands command))
+    → 0x10 ≤ byte_at b 0 → byte_at b 0 ≤ 0x1a
     → read_property reader t' (acted tenant t o (Commands command)).output LastOperation ≡ Value (byte_at b 0 - 0x10)
 unfolding acted done after_events commanded commanded_from with_command read_property
 kind_read p c b call command tenant reader t t' o h r n m = ap Value (kind_number p c b call command h r n m)

@@ -2,7 +2,7 @@
 -- property is written; or it is a command, plain or in tags. And the fade time that its bytes carry (§7) is
 -- the one that is written, or the command's. Two sets are compared by it (OutputCount.antt,
 -- ShorterFade.antt).
-use Rattle.std.specs.Prelude.{Option, Some, None}
+use Rattle.std.specs.Prelude.{Option, Some, None, Err}
 use mathlib.Core.Path.{◌≡◌, refl, sym, ap, ◌∙◌}
 use mathlib.Core.Bool.{true}
 use Prim.Native.Nat.{ℕ}
@@ -20,9 +20,7 @@ use Rattle.lighting_frames.specs.Paper.FadeTimes.{fade_time_in}
 use Rattle.lighting_outputs.specs.declared.Operation.{Operation}
 use Rattle.lighting_outputs.specs.declared.Property.{Property}
 use Rattle.lighting_outputs.specs.declared.Property.TheVariants.{FadeTime}
-use Rattle.lighting_outputs.specs.Paper.Answers.{as_request}
-use Rattle.lighting_outputs.specs.declared.Request.{Request}
-use Rattle.lighting_outputs.specs.declared.Request.TheVariants.{Refuse}
+use Rattle.lighting_outputs.specs.Paper.Answers.{as_request, Request}
 use Rattle.lighting_frames.specs.declared.Action.{Action}
 use Rattle.lighting_frames.specs.declared.Action.TheVariants.{WritesLevel, EmptiesSlot, WritesProperty, ReadsProperty, Stops, FadesTo, FadesToOver, RampsTo, RampsToAtRate, StepsUp, StepsDown, StepsUpBy, StepsDownBy, GoesTo, Relinquishes, CommandsTagged}
 use Rattle.lighting_frames.specs.declared.TagFields.{TagFields}
@@ -38,7 +36,7 @@ use Rattle.lighting_outputs.specs.declared.refusals.Refusal.TheVariants.{BadTags
 pub data SetRead (action : Action) (b : Bytes) : Type 0 where
   none : {request : Request} → ((p : Parameters) → request_of p action b ≡ request)
       → fade_time_in b ≡ None → SetRead action b
-  refuses : {refusal : Refusal} → ((p : Parameters) → request_of p action b ≡ Refuse refusal) → SetRead action b
+  refuses : {refusal : Refusal} → ((p : Parameters) → request_of p action b ≡ Err refusal) → SetRead action b
   writes : (property : Property) (x : ℕ) → ((p : Parameters) → request_of p action b ≡ as_request (change_of p property x))
       → fade_time_in b ≡ (when same FadeTime property then Some x else None) → SetRead action b
   commands : (operation : Operation) (duration : Option ℕ)

@@ -16,7 +16,6 @@ use Rattle.lighting_frames.specs.Paper.Kinds.{kind_row}
 use Rattle.lighting_frames.specs.Paper.Frames.{Bytes, request_of, call_of, called, clock_of, parse_by, parse}
 use Rattle.lighting_frames.specs.Paper.FadeTimes.{fade_time_in, carries}
 use Rattle.lighting_outputs.specs.declared.Property.TheVariants.{FadeTime}
-use Rattle.lighting_outputs.specs.declared.Request.{Request}
 use Rattle.lighting_frames.specs.declared.Action.{Action}
 use Rattle.lighting_frames.specs.declared.Call.{Call}
 use Rattle.lighting_frames.specs.declared.Frame.{Frame}
@@ -29,6 +28,7 @@ use Rattle.lighting_frames.proofs.KindTable.{kind_byte, clock_byte}
 use Rattle.lighting_frames.proofs.SetRead.{SetRead, none, refuses, writes, commands, set_read}
 use Rattle.lighting_outputs.specs.declared.refusals.Refusal.{Refusal}
 use Rattle.lighting_frames.specs.Paper.Tags.{reads}
+use Rattle.lighting_outputs.specs.Paper.Answers.{Request}
 
 -- a clock carries none
 clock_carries : (least most : ℕ) (b : Bytes) → (kind_row (byte_at b 0)).kind ≡ ClockKind → carries least most b ≡ false

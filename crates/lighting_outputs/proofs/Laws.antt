@@ -4,7 +4,7 @@ use Prim.Native.Nat.{ℕ}
 use Rattle.lighting_outputs.specs.Engine.Advance.{sooner}
 use Rattle.lighting_outputs.specs.Engine.Light.{count_before, count_since, lit_by_pace, lit_in_movement}
 use Rattle.lighting_outputs.specs.Paper.Acting.{acted, served, Served}
-use Rattle.lighting_outputs.specs.Paper.Answers.{answer_bytes, level_answered, Asked}
+use Rattle.lighting_outputs.specs.Paper.Answers.{answer_bytes, level_answered, Asked, Request}
 use Rattle.lighting_outputs.specs.Paper.Commands.{without_warning, activity_without_warning, stopped, effect, timed}
 use Rattle.lighting_outputs.specs.Paper.Operations.{operation_number, fields_of, duration_field}
 use Rattle.lighting_outputs.specs.Paper.Parameters.{Parameters}
@@ -31,7 +31,6 @@ use Rattle.lighting_outputs.specs.declared.Pace.{Pace}
 use Rattle.lighting_outputs.specs.declared.Phase.{Phase}
 use Rattle.lighting_outputs.specs.declared.Property.{Property}
 use Rattle.lighting_outputs.specs.declared.Range.{Range}
-use Rattle.lighting_outputs.specs.declared.Request.{Request}
 use Rattle.lighting_outputs.specs.declared.Settings.{Settings}
 use Rattle.lighting_outputs.specs.declared.Timer.{Timer}
 use Rattle.lighting_outputs.specs.declared.Warning.{Warning}

@@ -1,7 +1,7 @@
 -- A SHORTER LONGEST FADE (§7): two sets that differ in it alone. A record that keeps the rules by the shorter
 -- one keeps them by the longer one. A request is read alike by both, unless it takes a fade time between the
 -- two: by the shorter one that is 12.
-use Rattle.std.specs.Prelude.{Option, Some, None}
+use Rattle.std.specs.Prelude.{Option, Some, None, Ok, Err}
 use mathlib.Core.Path.{◌≡◌, refl, ap, ◌∙◌}
 use mathlib.Core.Bool.{Bool, true, false}
 use Prim.Native.Nat.{ℕ, suc, ◌≤◌}
@@ -26,9 +26,8 @@ use Rattle.lighting_outputs.specs.declared.OutputRequest.{OutputRequest}
 use Rattle.lighting_outputs.specs.declared.OutputRequest.TheVariants.{Change, Commands}
 use Rattle.lighting_outputs.specs.declared.Property.{Property}
 use Rattle.lighting_outputs.specs.declared.Property.TheVariants.{FadeTime}
-use Rattle.lighting_outputs.specs.Paper.Answers.{as_request}
-use Rattle.lighting_outputs.specs.declared.Request.{Request}
-use Rattle.lighting_outputs.specs.declared.Request.TheVariants.{Refuse, ToOutput}
+use Rattle.lighting_outputs.specs.Paper.Answers.{as_request, Request}
+use Rattle.lighting_outputs.specs.declared.PanelRequest.TheVariants.{ToOutput}
 use Rattle.lighting_outputs.specs.declared.Settings.{Settings}
 use Rattle.lighting_levels.proofs.Split.{by_bool, by_le, also_both, also_yes, leb_yes, leb_no, le_of}
 use Rattle.lighting_outputs.proofs.Rules.Rows.{same_is, row_reads}
@@ -47,9 +46,9 @@ pub data TakesFade : OutputRequest → Type 0 where
 
 pub data Shortened (between : Bool) : Request → Request → Type 0 where
   alike : {request : Request} → between ≡ false → Shortened between request request
-  refused : {refusal : Refusal} → Shortened between (Refuse refusal) (Refuse refusal)
+  refused : {refusal : Refusal} → Shortened between (Err refusal) (Err refusal)
   cut : {request : OutputRequest} → between ≡ true → TakesFade request
-      → Shortened between (ToOutput request) (Refuse WholeOutOfRange)
+      → Shortened between (Ok (ToOutput request)) (Err WholeOutOfRange)
 
 -- a conjunction whose parts imply those of another
 also_then : {a a' b b' : Bool} → (a ≡ true → a' ≡ true) → (b ≡ true → b' ≡ true) → (a also b) ≡ true → (a' also b') ≡ true
@@ -162,7 +161,7 @@ module _ (p : Parameters) (fade : ℕ) (less : fade ≤ p.fade) where
   lasting operation None = refl
 
   taken : (between : Bool) → between ≡ true → (operation : Operation) (field : Option ℕ)
-      → Shortened between (as_request (command_with_duration p operation field)) (Refuse WholeOutOfRange)
+      → Shortened between (as_request (command_with_duration p operation field)) (Err WholeOutOfRange)
   unfolding command_with_duration command_lasting when◌then◌else◌
   taken between h operation (Some d) =
       by_bool (eqb d 0)

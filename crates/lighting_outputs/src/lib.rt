@@ -279,24 +279,21 @@ pub enum OutputRequest {
 // 15 (a read of an unknown property meets its 9 when it is answered).
 pub type Asked = Result<OutputRequest, Refusal>;
 
-// What a frame asks: something of its own output, and of no other; or nothing, by the refusal that its fields
-// meet. A request to the whole table is a case of its own here.
-// Stays: no Result, which can gain no such case.
+// What the panel is asked: something of the frame's own output, and of no other. A request to the whole table
+// is a case of its own here.
 #[derive(Clone, Copy)]
-pub enum Request {
-    Refuse(Refusal),
+pub enum PanelRequest {
     ToOutput(OutputRequest),
 }
 
-impl From<Asked> for Request {
-    ghost from_gives = { λ asked request. request ≡ as_request asked };
+// What a frame asks of the panel; or nothing, by the refusal that its fields meet.
+pub type Request = Result<PanelRequest, Refusal>;
 
-    fn from(asked: Asked) -> Request {
-        match asked {
-            Ok(request) => Request::ToOutput(request),
-            Err(refusal) => Request::Refuse(refusal),
-        }
-    }
+// What the fields ask of the frame's own output, as a request to the panel.
+pub fn as_request(asked: Asked) -> Request
+    ensures { result ≡ as_request asked }
+{
+    asked.map(PanelRequest::ToOutput)
 }
 
 // ---- results of acting

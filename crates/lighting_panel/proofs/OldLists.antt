@@ -31,7 +31,7 @@ use Rattle.lighting_panel.specs.Engine.Executing.{execute, frame_step}
 use Rattle.lighting_outputs.specs.declared.Output.{Output}
 use Rattle.lighting_outputs.specs.declared.OutputRequest.{OutputRequest}
 use Rattle.lighting_outputs.specs.declared.OutputRequest.TheVariants.{Change}
-use Rattle.lighting_outputs.specs.declared.Request.TheVariants.{Refuse, ToOutput}
+use Rattle.lighting_outputs.specs.declared.PanelRequest.TheVariants.{ToOutput}
 use Rattle.lighting_outputs.specs.declared.Property.TheVariants.{FadeTime}
 use Rattle.lighting_outputs.specs.declared.Answer.{Answer}
 use Rattle.lighting_outputs.specs.declared.Answer.TheVariants.{Done, Refused}
@@ -67,7 +67,7 @@ values p t o keeps = search parts depth 10
 taken_done : (p : Parameters) (tenant : Bool) (t : ℕ) (outputs : List Output) (i : ℕ) (request : OutputRequest)
     → TakesFade request
     → i < length outputs → every (sound p t) outputs ≡ true
-    → (served tenant t outputs i (ToOutput request)).answer ≡ Done
+    → (served tenant t outputs i (Ok (ToOutput request))).answer ≡ Done
 unfolding served acted done settings_with relay_with same when◌then◌else◌
 taken_done p tenant t outputs i _ (written {v = v}) inside keep =
     let o = get_or outputs i fresh_output in
@@ -145,10 +145,10 @@ module _ (c : ℕ) (k : List Station) (w : PlainState) (b : Bytes) (octets : Oct
 
   -- what is cut the old panel answers with Done, and today's with 12
   module _ (z : Cut e b) where
-    arrival : Arrived p c w b (asking z.call (Refuse WholeOutOfRange))
+    arrival : Arrived p c w b (asking z.call (Err WholeOutOfRange))
     arrival =
         let moved = judged_moved p c k w b (parse p c b) m (frame_in_range p c b octets) in
-        let refused = Ok (Arrives (asking z.call (Refuse WholeOutOfRange))) in
+        let refused = Ok (Arrives (asking z.call (Err WholeOutOfRange))) in
         let arrives : judged w.past b (parse p c b) ≡ refused = rw m.count at (sym verdict ∙ z.now) in
         rw arrives at moved
 

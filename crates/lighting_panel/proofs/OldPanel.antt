@@ -27,8 +27,7 @@ use Rattle.lighting_panel.specs.Engine.Judging.{restored, judged_by_number, judg
 use Rattle.lighting_panel.specs.Engine.Executing.{execute, frame_step}
 use Rattle.lighting_outputs.specs.declared.Output.{Output}
 use Rattle.lighting_outputs.specs.declared.OutputRequest.{OutputRequest}
-use Rattle.lighting_outputs.specs.declared.Request.{Request}
-use Rattle.lighting_outputs.specs.declared.Request.TheVariants.{Refuse, ToOutput}
+use Rattle.lighting_outputs.specs.declared.PanelRequest.TheVariants.{ToOutput}
 use Rattle.lighting_outputs.specs.declared.Answer.{Answer}
 use Rattle.lighting_outputs.specs.declared.Answer.TheVariants.{Done, Refused}
 use Rattle.lighting_frames.specs.declared.Call.{Call}
@@ -49,6 +48,7 @@ use Rattle.lighting_panel.proofs.Carried.{start_step_refused, start_step_done}
 use Rattle.lighting_panel.proofs.Table.{served_length}
 use Rattle.lighting_outputs.specs.declared.refusals.Refusal.{Refusal}
 use Rattle.lighting_outputs.specs.declared.refusals.Refusal.TheVariants.{WholeOutOfRange}
+use Rattle.lighting_outputs.specs.Paper.Answers.{Request}
 
 -- THE SET: the old panel's, with as many outputs as the table has
 abbrev pub set_of : OldPanel → Parameters
@@ -142,8 +142,8 @@ pub record Cut (e : OldPanel) (b : Bytes) : Type 0 where
   pub call : Call
   pub request : OutputRequest
   pub before : old_decide e b ≡ Ok (Arrives call)
-  pub now : decide (today e) b ≡ Ok (Arrives (asking call (Refuse WholeOutOfRange)))
-  pub asked : call.request ≡ ToOutput request
+  pub now : decide (today e) b ≡ Ok (Arrives (asking call (Err WholeOutOfRange)))
+  pub asked : call.request ≡ Ok (ToOutput request)
   pub takes : TakesFade request
   pub longer : carries_longer b ≡ true
 
@@ -153,7 +153,7 @@ pub data Compared (e : OldPanel) (b : Bytes) : Type 0 where
   turned_down : {r : Refusal} → old_decide e b ≡ Err r → decide (today e) b ≡ Err r → Compared e b
   copied_both : {a : Answer} → old_decide e b ≡ Ok (Copied a) → decide (today e) b ≡ Ok (Copied a) → Compared e b
   short : carries_longer b ≡ false → decide (today e) b ≡ old_decide e b → Compared e b
-  refused_both : {r : Refusal} (call : Call) → call.request ≡ Refuse r → old_decide e b ≡ Ok (Arrives call)
+  refused_both : {r : Refusal} (call : Call) → call.request ≡ Err r → old_decide e b ≡ Ok (Arrives call)
       → decide (today e) b ≡ Ok (Arrives call) → Compared e b
   cut_off : Cut e b → Compared e b
 

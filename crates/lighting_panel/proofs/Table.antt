@@ -11,6 +11,7 @@ use lib.Dec.{leb}
 use lib.Ieee.{of_bits}
 use lib.ListN.{set, get_or, length, replicate, length-set}
 use lib.Seq.{get_or-set_other}
+use Rattle.std.specs.Prelude.{Ok, Err}
 use Rattle.lighting_levels.specs.Paper.Choice.{when◌then◌else◌, all_from, Every, every}
 use Rattle.lighting_outputs.specs.declared.Parameters.{Parameters}
 use Rattle.lighting_outputs.specs.Paper.Parameters.{fresh_fade}
@@ -25,8 +26,7 @@ use Rattle.lighting_outputs.specs.Paper.Rules.{levels_sound, times_sound, reals_
 use Rattle.lighting_outputs.specs.Paper.Fresh.{fresh_settings, fresh_relay, fresh_with, fresh_for, fresh_output}
 use Rattle.lighting_outputs.specs.Paper.Acting.{served, acted}
 use Rattle.lighting_panel.specs.Paper.Plain.{Plain, run_plain}
-use Rattle.lighting_outputs.specs.declared.Request.{Request}
-use Rattle.lighting_outputs.specs.declared.Request.TheVariants.{Refuse, ToOutput}
+use Rattle.lighting_outputs.specs.declared.PanelRequest.TheVariants.{ToOutput}
 use Rattle.lighting_outputs.specs.declared.OutputRequest.{OutputRequest}
 use Rattle.lighting_outputs.specs.declared.Output.{Output}
 use Rattle.lighting_levels.proofs.Split.{leb_yes}
@@ -39,6 +39,7 @@ use Rattle.lighting_outputs.proofs.Time.Ticking.{advance_sound}
 use Rattle.lighting_outputs.proofs.Rules.RequestInRange.{RequestInRange}
 use Rattle.lighting_outputs.proofs.Acts.Acted.{acted_lawful}
 use Rattle.lighting_outputs.proofs.Acts.Answered.{NotOne, acted_not_one}
+use Rattle.lighting_outputs.specs.Paper.Answers.{Request}
 
 abbrev pub AllSound : Parameters → ℕ → List Output → Type 0
 AllSound p t l = Every (Lawful p t) l
@@ -115,14 +116,14 @@ all_advance p now to l h b a = every_map (Lawful p now) (Lawful p to) (advance n
 -- what a request leaves of the outputs: all as they were, or the frame's own one acted on
 data Leaves (tenant : Bool) (t : ℕ) (l : List Output) (i : ℕ) (r : Request) : List Output → Type 0 where
   all : Leaves tenant t l i r l
-  own : (q : OutputRequest) → r ≡ ToOutput q
+  own : (q : OutputRequest) → r ≡ Ok (ToOutput q)
       → Leaves tenant t l i r (set l i (acted tenant t (get_or l i fresh_output) q).output)
 
 served_leaves : (tenant : Bool) (t : ℕ) (l : List Output) (i : ℕ) (r : Request)
     → Leaves tenant t l i r (served tenant t l i r).outputs
 unfolding served
-served_leaves tenant t l i (Refuse n) = all
-served_leaves tenant t l i (ToOutput q) = own q refl
+served_leaves tenant t l i (Err n) = all
+served_leaves tenant t l i (Ok (ToOutput q)) = own q refl
 
 -- as many outputs as before
 leaves_length : {tenant : Bool} {t i : ℕ} {l l' : List Output} {r : Request} → Leaves tenant t l i r l'
@@ -137,13 +138,13 @@ served_length tenant t l i r = leaves_length (served_leaves tenant t l i r)
 -- what every output keeps, whatever is asked of it, every output of the table keeps
 leaves_every : {tenant : Bool} {t i : ℕ} {l l' : List Output} {r : Request} (P : Output → Type 0)
     → Leaves tenant t l i r l'
-    → ((q : OutputRequest) → r ≡ ToOutput q → (o : Output) → P o → P (acted tenant t o q).output)
+    → ((q : OutputRequest) → r ≡ Ok (ToOutput q) → (o : Output) → P o → P (acted tenant t o q).output)
     → Every P l → Every P l'
 leaves_every P all k a = a
 leaves_every {i = i} {l = l} P (own q e) k a = every_set P l i fresh_output _ (k q e (get_or l i fresh_output)) a
 
 pub served_every : (P : Output → Type 0) (tenant : Bool) (t : ℕ) (l : List Output) (i : ℕ) (r : Request)
-    → ((q : OutputRequest) → r ≡ ToOutput q → (o : Output) → P o → P (acted tenant t o q).output)
+    → ((q : OutputRequest) → r ≡ Ok (ToOutput q) → (o : Output) → P o → P (acted tenant t o q).output)
     → Every P l → Every P (served tenant t l i r).outputs
 served_every P tenant t l i r k a = leaves_every P (served_leaves tenant t l i r) k a
 
@@ -160,8 +161,8 @@ served_other tenant t l i j r h = leaves_other j (served_leaves tenant t l i r) 
 pub served_not_one : (p : Parameters) (tenant : Bool) (t : ℕ) (l : List Output) (i : ℕ) (r : Request)
     → RequestInRange p r → NotOne (served tenant t l i r).answer
 unfolding served
-served_not_one p tenant t l i (Refuse n) g = record { other = omega arith }
-served_not_one p tenant t l i (ToOutput q) g = acted_not_one tenant t (get_or l i fresh_output) q
+served_not_one p tenant t l i (Err n) g = record { other = omega arith }
+served_not_one p tenant t l i (Ok (ToOutput q)) g = acted_not_one tenant t (get_or l i fresh_output) q
 
 pub served_sound : (p : Parameters) (tenant : Bool) (t : ℕ) (l : List Output) (i : ℕ) (r : Request)
     → RequestInRange p r → AllSound p t l → AllSound p t (served tenant t l i r).outputs

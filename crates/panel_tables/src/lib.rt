@@ -3,15 +3,16 @@
 // the work, and the record is put back.
 #![tactic(auto)]
 
-ghost use Rattle.std.specs.Prelude.{map, ◌≡◌, ◌≤◌, ◌<◌, length, replicate, set, get_or};
+ghost use Rattle.std.specs.Prelude.{map, Ok, ◌≡◌, ◌≤◌, ◌<◌, length, replicate, set, get_or};
 ghost use Rattle.lighting_outputs.specs.Paper.Fresh.{fresh_for, fresh_output};
 ghost use Rattle.lighting_frames.specs.Paper.Stations.{fresh_station};
 ghost use Rattle.lighting_outputs.specs.Engine.Advance.{advance};
 ghost use Rattle.lighting_outputs.specs.Paper.Acting.{served};
+ghost use Rattle.lighting_outputs.specs.declared.PanelRequest.TheVariants.{ToOutput};
 ghost use Rattle.lighting_panel.specs.Engine.VerdictPrecondition.{Standing};
 
 use lighting_frames::Station;
-use lighting_outputs::{Answer, Output, OutputRequest, Parameters, Request};
+use lighting_outputs::{Answer, Output, OutputRequest, PanelRequest, Parameters, Request};
 use panel_time::PanelTime;
 
 // ---- each record of a table
@@ -89,8 +90,8 @@ fn serve_output(
     request: OutputRequest,
 ) -> Answer
     requires at_in_bounds { at < length outputs.old }
-    ensures value { result ≡ (served tenant time.milliseconds outputs.old at (Request.ToOutput request)).answer }
-    ensures outputs_after { outputs.new ≡ (served tenant time.milliseconds outputs.old at (Request.ToOutput request)).outputs }
+    ensures value { result ≡ (served tenant time.milliseconds outputs.old at (Ok (ToOutput request))).answer }
+    ensures outputs_after { outputs.new ≡ (served tenant time.milliseconds outputs.old at (Ok (ToOutput request))).outputs }
 {
     let done = output_acting::act(tenant, time, outputs[at], request);
     outputs[at] = done.output;
@@ -111,7 +112,7 @@ pub fn serve(
     ensures outputs_after { outputs.new ≡ (served tenant time.milliseconds outputs.old at request).outputs }
 {
     match request {
-        Request::Refuse(refusal) => Answer::from(refusal),
-        Request::ToOutput(asked) => serve_output(outputs, tenant, time, at, asked),
+        Err(refusal) => Answer::from(refusal),
+        Ok(PanelRequest::ToOutput(asked)) => serve_output(outputs, tenant, time, at, asked),
     }
 }

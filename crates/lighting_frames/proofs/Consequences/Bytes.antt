@@ -25,9 +25,8 @@ use Rattle.lighting_frames.specs.declared.Kind.TheVariants.{NoKind, ClockKind, C
 use Rattle.lighting_frames.specs.declared.KindRow.{KindRow}
 use Rattle.lighting_outputs.specs.declared.Answer.TheVariants.{Done}
 use Rattle.lighting_outputs.specs.declared.Output.{Output}
-use Rattle.lighting_outputs.specs.Paper.Answers.{as_request}
-use Rattle.lighting_outputs.specs.declared.Request.{Request}
-use Rattle.lighting_outputs.specs.declared.Request.TheVariants.{Refuse, ToOutput}
+use Rattle.lighting_outputs.specs.Paper.Answers.{as_request, Request}
+use Rattle.lighting_outputs.specs.declared.PanelRequest.TheVariants.{ToOutput}
 use Rattle.lighting_outputs.specs.declared.OutputRequest.TheVariants.{Write, Empty, Read}
 use Rattle.lighting_frames.specs.declared.Call.{Call}
 use Rattle.lighting_frames.specs.declared.Frame.{Frame}
@@ -79,8 +78,8 @@ fits k = each_row (λ (n : ℕ) (row : KindRow). Fits n row.length row.kind) (λ
 
 -- WHAT THE BYTES ASK by the kind k: nothing, unless it is a call's
 abbrev asked_by : (p : Parameters) → Kind → Bytes → Request
-asked_by p NoKind b = Refuse NotWritable
-asked_by p ClockKind b = Refuse NotWritable
+asked_by p NoKind b = Err NotWritable
+asked_by p ClockKind b = Err NotWritable
 asked_by p (CallKind action) b = request_of p action b
 
 abbrev pub asked : (p : Parameters) → ℕ → Bytes → Request
@@ -159,24 +158,24 @@ module _ (p : Parameters) (c : ℕ) (b : Bytes) where
 -- byte 13 is the priority, and kind 02's REAL follows it
 module _ (p : Parameters) (b : Bytes) where
   pub write_slot : (i v : ℕ) → Slot i → byte_at b 13 ≡ suc i → level_of (real (big_endian 4 b 14)) ≡ Some v
-      → asked p 2 b ≡ ToOutput (Write i v)
+      → asked p 2 b ≡ Ok (ToOutput (Write i v))
   unfolding kind_row request_of write_of write_level when◌then◌else◌
   write_slot i v k n e = let z : suc i - 1 ≡ i = omega arith in rw (n, priority_yes i k, e, z)
 
   pub write_real : (i : ℕ) → Slot i → byte_at b 13 ≡ suc i → level_of (real (big_endian 4 b 14)) ≡ None
-      → asked p 2 b ≡ Refuse RealOutOfRange
+      → asked p 2 b ≡ Err RealOutOfRange
   unfolding kind_row request_of write_of write_level when◌then◌else◌
   write_real i k n e = rw (n, priority_yes i k, e)
 
-  pub empty_slot : (i : ℕ) → Slot i → byte_at b 13 ≡ suc i → asked p 3 b ≡ ToOutput (Empty i)
+  pub empty_slot : (i : ℕ) → Slot i → byte_at b 13 ≡ suc i → asked p 3 b ≡ Ok (ToOutput (Empty i))
   unfolding kind_row request_of empty_of when◌then◌else◌
   empty_slot i k n = let z : suc i - 1 ≡ i = omega arith in rw (n, priority_yes i k, z)
 
-  pub write_priority : NoPriority (byte_at b 13) → asked p 2 b ≡ Refuse BadPriority
+  pub write_priority : NoPriority (byte_at b 13) → asked p 2 b ≡ Err BadPriority
   unfolding kind_row request_of write_of when◌then◌else◌
   write_priority h = rw (priority_no (byte_at b 13) h)
 
-  pub empty_priority : NoPriority (byte_at b 13) → asked p 3 b ≡ Refuse BadPriority
+  pub empty_priority : NoPriority (byte_at b 13) → asked p 3 b ≡ Err BadPriority
   unfolding kind_row request_of empty_of when◌then◌else◌
   empty_priority h = rw (priority_no (byte_at b 13) h)
 
@@ -192,7 +191,8 @@ module _ (p : Parameters) (b : Bytes) where
   unfolding acted served done
   empties_slot t o i k n = rw (empty_slot i k n)
 
-pub read_asked : (p : Parameters) (b : Bytes) → asked p 5 b ≡ ToOutput (Read (property_of (byte_at b 13)))
+pub read_asked : (p : Parameters) (b : Bytes)
+    → asked p 5 b ≡ Ok (ToOutput (Read (property_of (byte_at b 13))))
 unfolding kind_row request_of when◌then◌else◌
 read_asked p b = refl
 

@@ -1,6 +1,6 @@
 -- §1, AS AN ENGINEER READS IT: what makes a body in tags 14, for every body; a tagged duration of FFFFFFFF;
 -- property 0F; that every plain command has a form in tags, of kind 1B, and that it is read alike.
-use Rattle.std.specs.Prelude.{Option, Some, None, Err}
+use Rattle.std.specs.Prelude.{Option, Some, None, Err, Ok}
 use Rattle.lighting_levels.specs.Paper.Choice.{when◌then◌else◌}
 use mathlib.Core.Path.{◌≡◌, refl, sym, ap, ◌∙◌}
 use mathlib.Core.Logic.{◌≢◌}
@@ -35,7 +35,7 @@ use Rattle.lighting_outputs.specs.declared.Operation.{Operation}
 use Rattle.lighting_outputs.specs.declared.Output.{Output}
 use Rattle.lighting_outputs.specs.declared.Property.TheVariants.{LastOperation}
 use Rattle.lighting_outputs.specs.declared.OutputRequest.TheVariants.{Commands}
-use Rattle.lighting_outputs.specs.declared.Request.TheVariants.{ToOutput}
+use Rattle.lighting_outputs.specs.declared.PanelRequest.TheVariants.{ToOutput}
 use Rattle.lighting_outputs.proofs.Rules.CommandRanges.{asked_by_request}
 use Rattle.lighting_frames.specs.declared.TagContent.{TagContent}
 use Rattle.lighting_frames.specs.declared.TagFields.{TagFields}
@@ -157,7 +157,7 @@ unfolding body_bytes zero_filled tag_bytes bytes_from field_bytes octets command
 second_byte k = rw (div-one (operation_number k.operation)) (mod-eq_of_lt (omega (arith, number_most k.operation)))
 
 module _ (p : Parameters) (b : Bytes) (o : Octets b) (size : length b ≡ 31) (k : Command)
-    (h : request_of p CommandsTagged b ≡ ToOutput (Commands k)) where
+    (h : request_of p CommandsTagged b ≡ Ok (ToOutput (Commands k))) where
   pub tagged_number : operation_number k.operation ≡ byte_at b 15
   tagged_number =
       sym (second_byte k)

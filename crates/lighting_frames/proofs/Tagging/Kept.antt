@@ -1,6 +1,6 @@
 -- EVERY COMMAND THAT THE PANEL KEEPS (§1): reading what the writer makes of it gives it back, for every
 -- command that a string of bytes asks for, in whatever form it came.
-use Rattle.std.specs.Prelude.{Option, Some, None, Float, Ok}
+use Rattle.std.specs.Prelude.{Option, Some, None, Float, Ok, Err}
 use Rattle.lighting_levels.specs.Paper.Choice.{when◌then◌else◌}
 use mathlib.Core.Path.{◌≡◌, refl, ap}
 use mathlib.Core.Bool.{true}
@@ -27,9 +27,8 @@ use Rattle.lighting_outputs.specs.declared.Range.{Range}
 use Rattle.lighting_outputs.specs.declared.Range.TheVariants.{Percent, Limit, Amount, Whole, Priority, ReadOnly}
 use Rattle.lighting_frames.specs.declared.TagContent.{TagContent}
 use Rattle.lighting_frames.specs.declared.TagFields.{TagFields}
-use Rattle.lighting_outputs.specs.Paper.Answers.{as_request}
-use Rattle.lighting_outputs.specs.declared.Request.{Request}
-use Rattle.lighting_outputs.specs.declared.Request.TheVariants.{Refuse, ToOutput}
+use Rattle.lighting_outputs.specs.Paper.Answers.{as_request, Request}
+use Rattle.lighting_outputs.specs.declared.PanelRequest.TheVariants.{ToOutput}
 use Rattle.lighting_outputs.specs.declared.OutputRequest.TheVariants.{Read, Commands}
 use Rattle.lighting_levels.proofs.Split.{by_bool}
 use Rattle.lighting_frames.proofs.Octets.{dropped_octets, word}
@@ -74,17 +73,17 @@ exact_operation p o b r =
 
 -- WHAT A REQUEST ASKS: a command so brought, or none
 abbrev AsksNoCommand : Request → Type 0
-AsksNoCommand r = (k : Command) → r ≡ ToOutput (Commands k) → ◌≡◌ {A = ℕ} 0 1
+AsksNoCommand r = (k : Command) → r ≡ Ok (ToOutput (Commands k)) → ◌≡◌ {A = ℕ} 0 1
 
 data Asks (p : Parameters) : Request → Type 0 where
   command : (o : Operation) (duration : Option ℕ) → Brought o → Word duration → Asks p (as_request (command_of p o duration))
   nothing : {r : Request} → AsksNoCommand r → Asks p r
 
 -- kinds 02 to 05 ask for none, and neither does what is refused
-refused_none : (r : Refusal) → AsksNoCommand (Refuse r)
+refused_none : (r : Refusal) → AsksNoCommand (Err r)
 refused_none r = λ k h. cc
 
-reading_none : (n : Property) → AsksNoCommand (ToOutput (Read n))
+reading_none : (n : Property) → AsksNoCommand (Ok (ToOutput (Read n)))
 reading_none n = λ k h. cc
 
 level_none : (i : ℕ) (l : Option ℕ) → AsksNoCommand (as_request (write_level i l))
@@ -192,7 +191,7 @@ tags_taken : (p : Parameters) (o : Operation) (duration : Option ℕ) (k : Comma
 unfolding command_tags
 tags_taken p o duration k t = rw (t.operation, t.lasting)
 
-again : (p : Parameters) (r : Request) (k : Command) → Asks p r → r ≡ ToOutput (Commands k)
+again : (p : Parameters) (r : Request) (k : Command) → Asks p r → r ≡ Ok (ToOutput (Commands k))
     → tagged_request p (read_body (body_bytes (command_tags k))) ≡ Ok (Commands k)
 unfolding tagged_request
 again p r k (command o duration brought word) h =

@@ -16,9 +16,8 @@ use Rattle.lighting_frames.specs.declared.Action.{Action}
 use Rattle.lighting_frames.specs.declared.Action.TheVariants.{WritesLevel, EmptiesSlot, WritesProperty, ReadsProperty, Stops, FadesTo, FadesToOver, RampsTo, RampsToAtRate, StepsUp, StepsDown, StepsUpBy, StepsDownBy, GoesTo, Relinquishes, CommandsTagged}
 use Rattle.lighting_frames.specs.declared.Kind.{Kind}
 use Rattle.lighting_frames.specs.declared.Kind.TheVariants.{NoKind, ClockKind, CallKind}
-use Rattle.lighting_outputs.specs.Paper.Answers.{Asked, as_request}
-use Rattle.lighting_outputs.specs.declared.Request.{Request}
-use Rattle.lighting_outputs.specs.declared.Request.TheVariants.{ToOutput}
+use Rattle.lighting_outputs.specs.Paper.Answers.{Asked, as_request, Request}
+use Rattle.lighting_outputs.specs.declared.PanelRequest.TheVariants.{ToOutput}
 use Rattle.lighting_outputs.specs.declared.OutputRequest.TheVariants.{Read, Commands}
 use Rattle.lighting_frames.specs.declared.Frame.{Frame}
 use Rattle.lighting_frames.specs.declared.Call.{Call}
@@ -54,7 +53,7 @@ unfoldable pub request_of : Parameters → Action → Bytes → Request
 request_of p WritesLevel b = as_request (write_of (byte_at b 13) (word_at b 14))
 request_of p EmptiesSlot b = as_request (empty_of (byte_at b 13))
 request_of p WritesProperty b = as_request (change_of p (property_of (byte_at b 13)) (word_at b 14))
-request_of p ReadsProperty b = ToOutput (Read (property_of (byte_at b 13)))
+request_of p ReadsProperty b = Ok (ToOutput (Read (property_of (byte_at b 13))))
 request_of p Stops b = as_request (command_request p Stop (word_at b 13))
 request_of p FadesTo b = as_request (command_request p (FadeTo (real_at b 13)) (word_at b 17))
 request_of p FadesToOver b = as_request (command_request p (FadeToOver (real_at b 13) (word_at b 17)) (word_at b 21))
@@ -103,4 +102,4 @@ parse p c b = let row = kind_row (byte_at b 0) in parse_by p c row.length row.ki
 -- 'every command the panel keeps' (§1): one that a string of bytes asks for, as a call of some kind
 pub data Kept (p : Parameters) : Command → Type 0 where
   asked : {command : Command} (action : Action) (b : Bytes) → Octets b
-      → request_of p action b ≡ ToOutput (Commands command) → Kept p command
+      → request_of p action b ≡ Ok (ToOutput (Commands command)) → Kept p command

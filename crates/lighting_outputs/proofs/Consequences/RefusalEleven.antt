@@ -1,6 +1,6 @@
 -- REFUSAL 11 OF A PROPERTY'S WRITE, over the rows: exactly where the REAL is out of its row's range the
 -- answer is 11, and everything is left.
-use Rattle.std.specs.Prelude.{Option, Some, None, Err}
+use Rattle.std.specs.Prelude.{Option, Some, None, Err, Ok}
 use mathlib.Core.Path.{◌≡◌, refl}
 use mathlib.Core.Bool.{false}
 use Prim.Native.Nat.{ℕ}
@@ -18,9 +18,8 @@ use Rattle.lighting_outputs.specs.declared.Output.{Output}
 use Rattle.lighting_outputs.specs.declared.Property.{Property}
 use Rattle.lighting_outputs.specs.declared.Range.{Range}
 use Rattle.lighting_outputs.specs.declared.Range.TheVariants.{Percent, Limit, Amount, Whole, Priority, ReadOnly}
-use Rattle.lighting_outputs.specs.Paper.Answers.{as_request, refusal_number}
-use Rattle.lighting_outputs.specs.declared.Request.{Request}
-use Rattle.lighting_outputs.specs.declared.Request.TheVariants.{Refuse, ToOutput}
+use Rattle.lighting_outputs.specs.Paper.Answers.{as_request, refusal_number, Request}
+use Rattle.lighting_outputs.specs.declared.PanelRequest.TheVariants.{ToOutput}
 use Rattle.lighting_outputs.specs.declared.OutputRequest.TheVariants.{Change}
 use Rattle.lighting_levels.proofs.Split.{by_bool}
 use Rattle.lighting_outputs.proofs.Consequences.Alone.{alone}
@@ -62,11 +61,11 @@ module _ (t : ℕ) (o : Output) where
   abbrev Other : Request → Type 0
   Other request = (alone t o request).answer ≡ Refused 11 → ⊥
 
-  refused_other : (refusal : Refusal) → (refusal_number refusal ≡ 11 → ⊥) → Other (Refuse refusal)
+  refused_other : (refusal : Refusal) → (refusal_number refusal ≡ 11 → ⊥) → Other (Err refusal)
   unfolding served
   refused_other refusal differs answer = differs (cc)
 
-  changed_other : (property : Property) (v : ℕ) → Other (ToOutput (Change property v))
+  changed_other : (property : Property) (v : ℕ) → Other (Ok (ToOutput (Change property v)))
   unfolding served acted changed_unless unchanged done when◌then◌else◌
   changed_other property v =
       by_bool (min_over_max (settings_with o.settings property v))

@@ -1,6 +1,6 @@
 -- TENANT STATIONS (§8): what a tenant's frames do and are answered, what whole percent is, and that two
 -- outputs which are alike in all of Learnt.antt read the same to a tenant.
-use Rattle.std.specs.Prelude.{Option, None}
+use Rattle.std.specs.Prelude.{Option, None, Ok, Err}
 use mathlib.Core.Path.{◌≡◌, refl, sym, ap, ◌∙◌}
 use mathlib.Core.Bool.{Bool}
 use mathlib.Core.List.{List, [], ◌∷◌, ◌++◌, map}
@@ -16,14 +16,14 @@ use Rattle.lighting_outputs.specs.Paper.Properties.{numbered, property_of, level
 use Rattle.lighting_outputs.specs.Paper.Acting.{unchanged, acted, served}
 use Rattle.lighting_outputs.specs.Paper.Learnt.{Learnt, the_settings, the_relay_settings, the_slots, the_last_command, the_process, the_binary_value, the_burning_time, the_present_value, the_progress_value, AlikeIn}
 use Rattle.lighting_outputs.specs.declared.Output.{Output}
-use Rattle.lighting_outputs.specs.declared.Request.{Request}
-use Rattle.lighting_outputs.specs.declared.Request.TheVariants.{Refuse, ToOutput}
+use Rattle.lighting_outputs.specs.declared.PanelRequest.TheVariants.{ToOutput}
 use Rattle.lighting_outputs.specs.declared.OutputRequest.{OutputRequest}
 use Rattle.lighting_outputs.specs.declared.OutputRequest.TheVariants.{Write, Empty, Change, Read, Commands}
 use Rattle.lighting_outputs.specs.declared.Property.{Property}
 use Rattle.lighting_outputs.specs.declared.Property.TheVariants.{RelinquishDefault, FadeTime, RampRate, StepIncrement, BlinkEnable, BlinkTime, BlinkWarnDelay, MinValue, MaxValue, CommandPriority, ElapsedActiveTime, PresentValue, ProgressValue, InProcess, LastOperation, LastLevel, LastRate, LastStep, LastFadeTime, LastDuration, BinaryActiveValue, BinaryInactiveValue, Polarity, BinaryPresentValue, RelayState, SlotValue, Unknown}
 use Rattle.lighting_levels.proofs.Split.{by_lt}
 use Rattle.lighting_outputs.proofs.Consequences.Reads.{reads, reads_as, hides, hides_no_more}
+use Rattle.lighting_outputs.specs.Paper.Answers.{Request}
 
 -- A TENANT'S FRAME DOES what any station's does: it may write, empty and command
 acts_alike : (tenant : Bool) (t : ℕ) (o : Output) (q : OutputRequest)
@@ -38,8 +38,8 @@ acts_alike tenant t o (Commands k) = refl
 pub done_alike : (tenant : Bool) (t : ℕ) (l : List Output) (i : ℕ) (r : Request)
     → (served tenant t l i r).outputs ≡ (served for_service t l i r).outputs
 unfolding served
-done_alike tenant t l i (Refuse n) = refl
-done_alike tenant t l i (ToOutput q) = rw (acts_alike tenant t (get_or l i _) q)
+done_alike tenant t l i (Err n) = refl
+done_alike tenant t l i (Ok (ToOutput q)) = rw (acts_alike tenant t (get_or l i _) q)
 
 -- and is answered as any station's, unless it reads
 abbrev pub NoRead : OutputRequest → Type 0

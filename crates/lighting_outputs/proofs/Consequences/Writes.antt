@@ -27,9 +27,8 @@ use Rattle.lighting_outputs.specs.declared.Property.{Property}
 use Rattle.lighting_outputs.specs.declared.Property.TheVariants.{RelinquishDefault, FadeTime, RampRate, StepIncrement, BlinkEnable, BlinkTime, BlinkWarnDelay, MinValue, MaxValue, CommandPriority, ElapsedActiveTime, BinaryActiveValue, BinaryInactiveValue, Polarity}
 use Rattle.lighting_outputs.specs.declared.Range.{Range}
 use Rattle.lighting_outputs.specs.declared.Range.TheVariants.{Percent, Limit, Amount, Whole, Priority, ReadOnly}
-use Rattle.lighting_outputs.specs.Paper.Answers.{as_request, refusal_number}
-use Rattle.lighting_outputs.specs.declared.Request.{Request}
-use Rattle.lighting_outputs.specs.declared.Request.TheVariants.{Refuse, ToOutput}
+use Rattle.lighting_outputs.specs.Paper.Answers.{as_request, refusal_number, Request}
+use Rattle.lighting_outputs.specs.declared.PanelRequest.TheVariants.{ToOutput}
 use Rattle.lighting_outputs.specs.declared.OutputRequest.TheVariants.{Change}
 use Rattle.lighting_outputs.specs.declared.Output.{Output}
 use Rattle.lighting_outputs.specs.declared.Outcome.{Outcome}
@@ -172,11 +171,11 @@ module _ (p : Parameters) (t t' : ℕ) (o : Output) (x : ℕ) where
           activity = unfold after_events in w.activity;
         }
 
-    changes : (v : ℕ) → WriteRead t' o (changed o u v) n x → After (ToOutput (Change u v))
+    changes : (v : ℕ) → WriteRead t' o (changed o u v) n x → After (Ok (ToOutput (Change u v)))
     unfolding served
     changes v w h = rw (write_done t o u v h) (judged_read (changed o u v) w)
 
-    turned_down : (refusal : Refusal) → After (Refuse refusal)
+    turned_down : (refusal : Refusal) → After (Err refusal)
     unfolding acted served unchanged
     turned_down refusal h = refused h
 
@@ -358,7 +357,7 @@ module _ (p : Parameters) (t t' : ℕ) (o : Output) (x : ℕ) where
     -- a property but 08, 09, 17 and 18: Min stays at most Max, and the inactive value below the active one
     pub accepted : (n : Property) (v : ℕ) → (settings_with o.settings n v).min ≡ o.settings.min → (settings_with o.settings n v).max ≡ o.settings.max
         → (relay_with o.relay n v).active ≡ o.relay.active → (relay_with o.relay n v).inactive ≡ o.relay.inactive
-        → (alone t o (ToOutput (Change n v))).answer ≡ Done
+        → (alone t o (Ok (ToOutput (Change n v)))).answer ≡ Done
     unfolding acted served done changed_unless min_over_max inactive_not_below when◌then◌else◌
     accepted n v e f g h =
         rw

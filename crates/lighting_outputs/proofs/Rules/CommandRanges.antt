@@ -20,7 +20,7 @@ use Rattle.lighting_outputs.specs.declared.Command.{Command}
 use Rattle.lighting_outputs.specs.declared.Property.TheVariants.{FadeTime}
 use Rattle.lighting_outputs.specs.declared.OutputRequest.{OutputRequest}
 use Rattle.lighting_outputs.specs.declared.OutputRequest.TheVariants.{Commands}
-use Rattle.lighting_outputs.specs.declared.Request.TheVariants.{ToOutput}
+use Rattle.lighting_outputs.specs.declared.PanelRequest.TheVariants.{ToOutput}
 use Rattle.lighting_levels.proofs.Split.{by_bool, by_eq}
 use Rattle.lighting_outputs.proofs.Rules.Tied.{within_of, meets_of}
 use Rattle.lighting_outputs.proofs.Rules.RequestInRange.{OperationInRange, RequestInRange}
@@ -135,7 +135,7 @@ pub refused_never : {refusal : Refusal} (k : Command) → ◌≡◌ {A = Asked} 
 refused_never k h = let z : ◌≡◌ {A = ℕ} 0 1 = cc in omega arith
 
 -- a request to the output comes of fields that ask just that
-pub asked_by_request : {q : OutputRequest} (asked : Asked) → as_request asked ≡ ToOutput q → asked ≡ Ok q
+pub asked_by_request : {q : OutputRequest} (asked : Asked) → as_request asked ≡ Ok (ToOutput q) → asked ≡ Ok q
 asked_by_request (Ok request) h = cc
 asked_by_request (Err refusal) h = cc
 

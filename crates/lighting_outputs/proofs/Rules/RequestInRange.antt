@@ -1,5 +1,6 @@
 -- The ranges of what a frame asks, once it is read: what acting may count on.
 use Prim.Native.Nat.{◌≤◌}
+use Rattle.std.specs.Prelude.{Ok, Err}
 use Rattle.lighting_outputs.specs.Paper.Parameters.{Parameters}
 use Rattle.lighting_outputs.specs.Paper.Rows.{row_of}
 use Rattle.lighting_outputs.specs.declared.Duration.{Duration}
@@ -7,9 +8,8 @@ use Rattle.lighting_outputs.specs.declared.Duration.TheVariants.{Lasts, Cancels,
 use Rattle.lighting_outputs.specs.declared.Operation.{Operation}
 use Rattle.lighting_outputs.specs.declared.Operation.TheVariants.{Stop, FadeTo, FadeToOver, RampTo, RampToAtRate, StepUp, StepDown, StepUpBy, StepDownBy, Goto, Relinquish}
 use Rattle.lighting_outputs.specs.declared.Property.TheVariants.{FadeTime}
-use Rattle.lighting_outputs.specs.Paper.Answers.{refusal_number}
-use Rattle.lighting_outputs.specs.declared.Request.{Request}
-use Rattle.lighting_outputs.specs.declared.Request.TheVariants.{Refuse, ToOutput}
+use Rattle.lighting_outputs.specs.Paper.Answers.{refusal_number, Request}
+use Rattle.lighting_outputs.specs.declared.PanelRequest.TheVariants.{ToOutput}
 use Rattle.lighting_outputs.specs.declared.OutputRequest.{OutputRequest}
 use Rattle.lighting_outputs.specs.declared.OutputRequest.TheVariants.{Write, Empty, Change, Read, Commands}
 use Rattle.lighting_outputs.proofs.Rules.Facts.{IsLevel, Within, Slot, Meets}
@@ -42,5 +42,5 @@ OutputRequestInRange p (Read n) = Unit {0}
 OutputRequestInRange p (Commands k) = OperationInRange p k.operation × DurationInRange p k.duration
 
 abbrev pub RequestInRange : Parameters → Request → Type 0
-RequestInRange p (Refuse refusal) = 9 ≤ refusal_number refusal
-RequestInRange p (ToOutput q) = OutputRequestInRange p q
+RequestInRange p (Err refusal) = 9 ≤ refusal_number refusal
+RequestInRange p (Ok (ToOutput q)) = OutputRequestInRange p q

@@ -1,5 +1,5 @@
 -- What a write of a property leaves meets the property's row, whichever it is.
-use Rattle.std.specs.Prelude.{Option, Some, None}
+use Rattle.std.specs.Prelude.{Option, Some, None, Ok}
 use mathlib.Core.Path.{◌≡◌, refl, sym, ap, ◌∙◌}
 use mathlib.Core.Bool.{true, false≢true}
 use mathlib.Core.List.{List, [], ◌∷◌}
@@ -17,7 +17,7 @@ use Rattle.lighting_outputs.specs.declared.Property.TheVariants.{RelinquishDefau
 use Rattle.lighting_outputs.specs.declared.Range.{Range}
 use Rattle.lighting_outputs.specs.declared.Range.TheVariants.{Percent, Limit, Amount, Whole, Priority, ReadOnly}
 use Rattle.lighting_outputs.specs.declared.OutputRequest.TheVariants.{Change}
-use Rattle.lighting_outputs.specs.declared.Request.TheVariants.{ToOutput}
+use Rattle.lighting_outputs.specs.declared.PanelRequest.TheVariants.{ToOutput}
 use Rattle.lighting_outputs.specs.Paper.Answers.{as_request}
 use Rattle.lighting_levels.proofs.Split.{by_bool, by_eq, by_le, by_lt, leb_yes, le_of, eq_of, eqb_hit, eqb_miss}
 use Rattle.lighting_levels.proofs.Ranges.{level_units_lem, limit_units}
@@ -32,13 +32,15 @@ unfolding is_priority when◌then◌else◌
 priority_of n h = by_eq n 0 (λ z e. absurd (false≢true (rw e at h))) (λ z e. slot_of (n - 1) (rw e at h))
 
 to_good : (p : Parameters) (n : Property) (l : Option ℕ)
-    → ((v : ℕ) → l ≡ Some v → RequestInRange p (ToOutput (Change n v))) → RequestInRange p (as_request (change_to n l))
+    → ((v : ℕ) → l ≡ Some v → RequestInRange p (Ok (ToOutput (Change n v))))
+    → RequestInRange p (as_request (change_to n l))
 unfolding change_to
 to_good p n (Some v) f = f v refl
 to_good p n None f = omega arith
 
 row_good : (p : Parameters) (r : Range) (n : Property) (x : ℕ)
-    → ((v : ℕ) → Meets r v → RequestInRange p (ToOutput (Change n v))) → RequestInRange p (as_request (change_by r n x))
+    → ((v : ℕ) → Meets r v → RequestInRange p (Ok (ToOutput (Change n v))))
+    → RequestInRange p (as_request (change_by r n x))
 unfolding change_by when◌then◌else◌
 row_good p Percent n x f = to_good p n (level_of (real x)) (λ v e. let u = level_units_lem (real x) v e in f v (record { least = u.0; most = u.1 }))
 row_good p Limit n x f = to_good p n (limit_of (real x)) (λ v e. let u = limit_units (real x) v e in f v (record { least = u.0; most = u.1 }))

@@ -1,7 +1,7 @@
 -- What a first arrival does: 'Each accepted frame first brings the panel to its time, then acts'. The engine
 -- and the plain panel share it.
 --
-use Rattle.std.specs.Prelude.{Bool, List, ℕ, get_or, set}
+use Rattle.std.specs.Prelude.{Bool, List, ℕ, get_or, set, Ok, Err}
 use Rattle.lighting_levels.specs.Paper.Choice.{when◌then◌else◌}
 use Rattle.lighting_outputs.specs.Paper.Relay.{inactive_not_below}
 use Rattle.lighting_outputs.specs.Paper.Passing.{after_events}
@@ -10,9 +10,8 @@ use Rattle.lighting_outputs.specs.Paper.Properties.{settings_with, relay_with, c
 use Rattle.lighting_outputs.specs.Paper.Commands.{commanded}
 use Rattle.lighting_outputs.specs.Paper.Fresh.{fresh_output}
 use Rattle.lighting_outputs.specs.declared.Property.{Property}
-use Rattle.lighting_outputs.specs.Paper.Answers.{refusal_number}
-use Rattle.lighting_outputs.specs.declared.Request.{Request}
-use Rattle.lighting_outputs.specs.declared.Request.TheVariants.{Refuse, ToOutput}
+use Rattle.lighting_outputs.specs.Paper.Answers.{refusal_number, Request}
+use Rattle.lighting_outputs.specs.declared.PanelRequest.TheVariants.{ToOutput}
 use Rattle.lighting_outputs.specs.declared.OutputRequest.{OutputRequest}
 use Rattle.lighting_outputs.specs.declared.OutputRequest.TheVariants.{Write, Empty, Change, Read, Commands}
 use Rattle.lighting_outputs.specs.declared.Answer.{Answer}
@@ -52,7 +51,7 @@ pub record Served : Type 0 where
   pub answer : Answer
 
 unfoldable pub served : Bool → ℕ → List Output → ℕ → Request → Served
-served tenant t outputs i (Refuse refusal) = record { outputs = outputs; answer = Refused (refusal_number refusal) }
-served tenant t outputs i (ToOutput request) =
+served tenant t outputs i (Err refusal) = record { outputs = outputs; answer = Refused (refusal_number refusal) }
+served tenant t outputs i (Ok (ToOutput request)) =
     let done = acted tenant t (get_or outputs i fresh_output) request in
     record { outputs = set outputs i done.output; answer = done.answer }

@@ -5,8 +5,8 @@ use Rattle.lighting_levels.specs.Paper.Field.{octets}
 use Rattle.lighting_outputs.specs.declared.Answer.{Answer}
 use Rattle.lighting_outputs.specs.declared.Answer.TheVariants.{Done, Value, Absent, Refused}
 use Rattle.lighting_outputs.specs.declared.OutputRequest.{OutputRequest}
-use Rattle.lighting_outputs.specs.declared.Request.{Request}
-use Rattle.lighting_outputs.specs.declared.Request.TheVariants.{Refuse, ToOutput}
+use Rattle.lighting_outputs.specs.declared.PanelRequest.{PanelRequest}
+use Rattle.lighting_outputs.specs.declared.PanelRequest.TheVariants.{ToOutput}
 use Rattle.lighting_outputs.specs.declared.refusals.Refusal.{Refusal}
 use Rattle.lighting_outputs.specs.declared.refusals.Refusal.TheVariants.{BrokenRecords, UnknownKind, WrongLength, UnknownStation, UnknownOutput, OtherBytes, PastNumber, PastTime, NotWritable, BadPriority, RealOutOfRange, WholeOutOfRange, MinOverMax, BadTags, BadFields, RelayNotInOrder, BadParameters, Other}
 
@@ -48,13 +48,18 @@ refusal_number RelayNotInOrder = 16
 refusal_number BadParameters = 17
 refusal_number (Other number) = number
 
--- what a frame asks of its output, or the refusal that its fields meet; and that as a request
+-- what a frame's fields ask of its output, or the refusal that they meet
 abbrev pub Asked : Type 0
 Asked = Result OutputRequest Refusal
 
+-- what a frame asks of the panel, or that refusal
+abbrev pub Request : Type 0
+Request = Result PanelRequest Refusal
+
+-- what the fields ask of the frame's own output, as a request to the panel
 abbrev pub as_request : Asked → Request
-as_request (Ok request) = ToOutput request
-as_request (Err refusal) = Refuse refusal
+as_request (Ok request) = Ok (ToOutput request)
+as_request (Err refusal) = Err refusal
 
 -- a REAL turned into units: out of range it meets a refusal, else none
 abbrev pub level_refusal : Option ℕ → Option Refusal

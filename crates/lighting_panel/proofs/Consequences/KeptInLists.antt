@@ -39,8 +39,7 @@ use Rattle.lighting_frames.specs.declared.Kind.{Kind}
 use Rattle.lighting_frames.specs.declared.Kind.TheVariants.{NoKind, ClockKind, CallKind}
 use Rattle.lighting_outputs.specs.declared.Output.{Output}
 use Rattle.lighting_outputs.specs.declared.Outcome.{Outcome}
-use Rattle.lighting_outputs.specs.declared.Request.{Request}
-use Rattle.lighting_outputs.specs.declared.Request.TheVariants.{ToOutput}
+use Rattle.lighting_outputs.specs.declared.PanelRequest.TheVariants.{ToOutput}
 use Rattle.lighting_outputs.specs.declared.OutputRequest.{OutputRequest}
 use Rattle.lighting_outputs.specs.declared.OutputRequest.TheVariants.{Write, Empty, Change, Read, Commands}
 use Rattle.lighting_frames.specs.declared.Verdict.{Verdict}
@@ -55,6 +54,7 @@ use Rattle.lighting_panel.proofs.Demand.{demand_3}
 use Rattle.lighting_panel.proofs.Calls.{once}
 use Rattle.lighting_outputs.proofs.Consequences.Durations.{written_rest}
 use Rattle.lighting_outputs.specs.declared.refusals.Refusal.{Refusal}
+use Rattle.lighting_outputs.specs.Paper.Answers.{Request}
 
 -- A FRESH OUTPUT'S: 'last operation STOP without duration', which kind 10 with FFFFFFFF asks for
 stop : Bytes
@@ -66,7 +66,7 @@ fresh_kept p fade = asked Stops stop (appended_octets (replicate 13 0) (replicat
 
 -- WHAT A FRAME ASKS
 abbrev Asking : Parameters → Request → Type 0
-Asking p r = (k : Command) → r ≡ ToOutput (Commands k) → Kept p k
+Asking p r = (k : Command) → r ≡ Ok (ToOutput (Commands k)) → Kept p k
 
 abbrev FrameKept : Parameters → Result Frame Refusal → Type 0
 FrameKept p (Err r) = Unit {0}
@@ -116,8 +116,8 @@ tick_last : (t : ℕ) (o : Output) → (tick t o).last ≡ o.last
 unfolding tick fire after_events with_burned with_burning
 tick_last t o = refl
 
-acted_last : (p : Parameters) (tenant : Bool) (t : ℕ) (o : Output) (q : OutputRequest) → Asking p (ToOutput q)
-    → Kept p o.last → Kept p (acted tenant t o q).output.last
+acted_last : (p : Parameters) (tenant : Bool) (t : ℕ) (o : Output) (q : OutputRequest)
+    → Asking p (Ok (ToOutput q)) → Kept p o.last → Kept p (acted tenant t o q).output.last
 unfolding acted done unchanged after_events slot_relinquished with_effect changed with_settings commanded commanded_from with_command
 acted_last p tenant t o (Write i v) g h = rw (written_rest t o i v).last h
 acted_last p tenant t o (Empty i) g h = h
