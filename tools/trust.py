@@ -3,7 +3,8 @@
 
 It counts the lines of the definitions, of the statement of demand 3 and of the contracts of `panel::start` and `panel::frame`, and the functions of each
 crate. A foreign function (a block `extern`), an axiom or a hole in any crate is an error. With LOG, what `rt ci` printed, it is an error too if a crate is
-not proved there (or kept), or rests on contracts of C functions of the kit's libraries other than those of the three programs' input and output below.
+not proved there (or kept), or rests on contracts of C functions of the kit's libraries other than those of the three programs' input and output below. The
+tests of a crate are a program of their own, which rt makes of them, and are held to theirs.
 With --check nothing is written, and a stale count is an error too."""
 import glob
 import os
@@ -14,6 +15,8 @@ import sys
 # others
 IO = ['libc::read', 'libc::write', 'os::c::__xpg_strerror_r', 'os::c::rattle_errno']
 AXIOMS = {'replay': IO + ['os::c::rattle_arg', 'os::c::rattle_set_errno'], 'bench_figures': IO, 'lent_tables': IO}
+# what the tests of a crate rest on: they write what they found, and one that fails ends its program
+TESTS = {'lent_rows': ['libc::write', 'os::c::rattle_arg', 'os::c::rattle_errno', 'os::c::rattle_set_errno', 'std::process::c::abort']}
 PAGE = 'docs/TRUST.md'
 BEGIN, END = '<!-- made by tools/trust.py -->', '<!-- to here -->'
 
@@ -54,7 +57,7 @@ functions, faults = 0, []
 for name in crates():
     for path in sorted(glob.glob('crates/%s/**/*.rt' % name, recursive=True)):
         if '/out/' not in path:
-            functions += len(re.findall(r'\bfn \w+', code(path)))
+            functions += len(re.findall(r'\bfn \w+', code(path).split('#[cfg(test)]')[0]))
             if re.search(r'\bextern\s*(?:""\s*)?\{', code(path)):
                 faults.append('%s declares foreign functions' % path)
     for path in sorted(glob.glob('crates/%s/**/*.antt' % name, recursive=True)):
@@ -68,12 +71,12 @@ for path in [word for word in sys.argv[1:] if word != '--check']:
     proved = set(re.findall(r'^rt: (\w+) (?:proved|is kept: .*)$', log, re.M))
     faults += ['%s is not proved by %s' % (name, path) for name in crates() if name not in proved]
     # rt names three functions of a library, and counts them all
-    for name, said in re.findall(r'^== (\w+)\n((?:(?!== |rt: \w+ (?:proved|NOT PROVED)).*\n)*)', log, re.M):
-        may = AXIOMS.get(name, [])
+    for name, tests, said in re.findall(r'^== (\w+)(: its tests)?\n((?:(?!== |rt: \w+ (?:proved|NOT PROVED)).*\n)*)', log, re.M):
+        may = (TESTS if tests else AXIOMS).get(name, [])
         named = [one.strip() for group in re.findall(r'^axioms \w+: (\w.*) \(', said, re.M) if '::' in group for one in group.split(',')]
         counted = max([int(count) for count in re.findall(r'^logic=.* axioms=(\d+)', said, re.M)], default=0)
         if counted != len(may) or set(named) - set(may) - {'...'} or re.search(r'^logic=.* foreign=', said, re.M):
-            faults.append('%s rests on %d axioms, among them %s, and may on %s' % (name, counted, named or 'none', may or 'none'))
+            faults.append('%s rests on %d axioms, among them %s, and may on %s' % (name + tests, counted, named or 'none', may or 'none'))
 for fault in faults:
     print('trust.py: ' + fault)
 
@@ -90,7 +93,8 @@ made = ['| what | where | lines |', '|---|---|---|'] + ['| %s | %s | %s |' % row
 made += ['%d functions in %d crates are proved. No crate has an axiom, a hole or a foreign function of its own.' % (functions, len(crates()))]
 made += ['Axioms of the kit, contracts of C functions that nothing proves, on which a crate rests through `std`:', '', '| crate | axioms |', '|---|---|']
 made += ['| `%s` | %d: %s |' % (name, len(names), ', '.join('`%s`' % a for a in sorted(names))) for name, names in sorted(AXIOMS.items())]
-made += ['| every other crate | none |']
+made += ['| the tests of `%s`, a program that rt makes | %d: %s |' % (name, len(names), ', '.join('`%s`' % a for a in sorted(names))) for name, names in sorted(TESTS.items())]
+made += ['| every other crate, and its tests | none |']
 text = '\n'.join([BEGIN, ''] + made + ['', END])
 page = read(PAGE)
 start, end = page.index(BEGIN), page.index(END) + len(END)

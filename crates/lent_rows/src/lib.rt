@@ -40,6 +40,12 @@ pub trait Record: Copy {
     ghost within: { LENGTH ≤ NUMBERS };
 }
 
+// Whether a record is a fresh one: the two have the same row. Each call makes the fresh row anew, so who asks
+// it of a whole table makes that row once, as `lent_session` does.
+pub fn is_fresh<R: Record>(record: R) -> bool {
+    record.row(0) == R::fresh().row(0)
+}
+
 // ---- a row, read
 
 // A row as far as it is read: its letter, once it has come; the numbers that are whole, and zeros after them;
@@ -113,4 +119,31 @@ pub fn put_row(page: &mut Page, letter: u8, row: &[u64])
         page.put_decimal(*n);
     }
     page.put(b'\n');
+}
+
+#[cfg(test)]
+mod tests {
+    use super::is_fresh;
+
+    // A fresh output and a fresh station, and each of them with one field changed.
+    #[test]
+    fn fresh_records(rt: HostRuntime) {
+        let output = output_fresh::fresh_output(panel_record::four_hours(64));
+        assert!(rt; is_fresh(output), "a fresh output");
+        let mut lit = output;
+        lit.burning = 1;
+        assert!(rt; !is_fresh(lit), "an output that was lit");
+        let mut binary = output;
+        binary.relay.binary = true;
+        assert!(rt; !is_fresh(binary), "an output whose relay moved");
+
+        let station = output_fresh::fresh_station();
+        assert!(rt; is_fresh(station), "a fresh station");
+        let mut counted = station;
+        counted.number = 1;
+        assert!(rt; !is_fresh(counted), "a station that sent a frame");
+        let mut framed = station;
+        framed.frame[30] = 1;
+        assert!(rt; !is_fresh(framed), "a station whose last byte is kept");
+    }
 }
