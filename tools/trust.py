@@ -53,11 +53,16 @@ def code(path):
     return re.sub(r'"(?:[^"\\\n]|\\.)*"', '""', text)
 
 
+def without_tests(text):
+    """Code without its test modules."""
+    return re.sub(r'(?ms)^#\[cfg\(test\)\]\nmod \w+ \{\n.*?^\}$', '', text)
+
+
 functions, faults = 0, []
 for name in crates():
     for path in sorted(glob.glob('crates/%s/**/*.rt' % name, recursive=True)):
         if '/out/' not in path:
-            functions += len(re.findall(r'\bfn \w+', code(path).split('#[cfg(test)]')[0]))
+            functions += len(re.findall(r'\bfn \w+', without_tests(code(path))))
             if re.search(r'\bextern\s*(?:""\s*)?\{', code(path)):
                 faults.append('%s declares foreign functions' % path)
     for path in sorted(glob.glob('crates/%s/**/*.antt' % name, recursive=True)):
