@@ -3,8 +3,8 @@
 
 It counts the lines of the definitions, of the statement of demand 3 and of the contracts of `panel::start` and `panel::frame`, and the functions of each
 crate. A foreign function (a block `extern`), an axiom or a hole in any crate is an error. With LOG, what `rt ci` printed, it is an error too if a crate is
-not proved there (or kept), or rests on contracts of C functions of the kit's libraries other than those of the three programs' input and output below. The
-tests of a crate are a program of their own, which rt makes of them, and are held to theirs.
+not proved there (or kept), or rests on contracts of C functions of the kit's libraries other than those of the three programs' input and output below.
+The tests of a crate are a program of their own, which rt makes of them, and are held to theirs.
 With --check nothing is written, and a stale count is an error too."""
 import glob
 import os
@@ -16,7 +16,8 @@ import sys
 IO = ['libc::read', 'libc::write', 'os::c::__xpg_strerror_r', 'os::c::rattle_errno']
 AXIOMS = {'replay': IO + ['os::c::rattle_arg', 'os::c::rattle_set_errno'], 'bench_figures': IO, 'lent_tables': IO}
 # what the tests of a crate rest on: they write what they found, and one that fails ends its program
-TESTS = {'lent_rows': ['libc::write', 'os::c::rattle_arg', 'os::c::rattle_errno', 'os::c::rattle_set_errno', 'std::process::c::abort']}
+WRITTEN = ['libc::write', 'os::c::rattle_arg', 'os::c::rattle_errno', 'os::c::rattle_set_errno']
+TESTS = {'lent_rows': WRITTEN + ['std::process::c::abort']}
 PAGE = 'docs/TRUST.md'
 BEGIN, END = '<!-- made by tools/trust.py -->', '<!-- to here -->'
 
@@ -81,7 +82,8 @@ for path in [word for word in sys.argv[1:] if word != '--check']:
         named = [one.strip() for group in re.findall(r'^axioms \w+: (\w.*) \(', said, re.M) if '::' in group for one in group.split(',')]
         counted = max([int(count) for count in re.findall(r'^logic=.* axioms=(\d+)', said, re.M)], default=0)
         if counted != len(may) or set(named) - set(may) - {'...'} or re.search(r'^logic=.* foreign=', said, re.M):
-            faults.append('%s rests on %d axioms, among them %s, and may on %s' % (name + tests, counted, named or 'none', may or 'none'))
+            rests = (name + tests, counted, named or 'none', may or 'none')
+            faults.append('%s rests on %d axioms, among them %s, and may on %s' % rests)
 for fault in faults:
     print('trust.py: ' + fault)
 
@@ -97,8 +99,10 @@ rows = [
 made = ['| what | where | lines |', '|---|---|---|'] + ['| %s | %s | %s |' % row for row in rows] + ['']
 made += ['%d functions in %d crates are proved. No crate has an axiom, a hole or a foreign function of its own.' % (functions, len(crates()))]
 made += ['Axioms of the kit, contracts of C functions that nothing proves, on which a crate rests through `std`:', '', '| crate | axioms |', '|---|---|']
-made += ['| `%s` | %d: %s |' % (name, len(names), ', '.join('`%s`' % a for a in sorted(names))) for name, names in sorted(AXIOMS.items())]
-made += ['| the tests of `%s`, a program that rt makes | %d: %s |' % (name, len(names), ', '.join('`%s`' % a for a in sorted(names))) for name, names in sorted(TESTS.items())]
+for row, table in [('`%s`', AXIOMS), ('the tests of `%s`, a program that rt makes', TESTS)]:
+    for name, names in sorted(table.items()):
+        listed = ', '.join('`%s`' % a for a in sorted(names))
+        made += ['| %s | %d: %s |' % (row % name, len(names), listed)]
 made += ['| every other crate, and its tests | none |']
 text = '\n'.join([BEGIN, ''] + made + ['', END])
 page = read(PAGE)
