@@ -12,8 +12,8 @@ PAGES = ['README.md', 'docs/PROMISES.md', 'docs/CHANGING.md', 'docs/TRUST.md', '
 QUOTES = 'docs/TOUR.md'
 # words that are no names of the repository: of the language, the toolchain, the text of lists, the papers
 OTHERS = set('''requires ensures unfolding abbrev unfoldable search rules simp cc rw omega let if match while loop for use mod pub fn struct enum const f32 u8 u16 u32 u64 bool usize
-libc process abort
-read write os c __xpg_strerror_r rattle_arg rattle_errno rattle_set_errno std result pv inprocess stdin stdout also to_bits refl tagged Relay frame_tags name old: new: DEFINITION_on rt cargo valgrind python3 target main returns old new to start frame'''.split())
+process abort
+libc read write os c __xpg_strerror_r rattle_arg rattle_errno rattle_set_errno std result pv inprocess stdin stdout also to_bits refl tagged Relay frame_tags name old: new: DEFINITION_on rt cargo valgrind python3 target main returns old new to start frame'''.split())
 
 
 def read(path):
